@@ -1,0 +1,39 @@
+-- The history of the shared words: disables by threads, and boards put by releases of the stopped world.
+use Rattle.std.specs.Prelude.{◌≡◌, ℕ, List, [], ◌∷◌, ◌++◌, slice_index_or, slice_set, cond, ◌==◌}
+use Rattle.mon_words.specs.Words.{clear}
+use Rattle.mon_words.specs.declared.history.Cell.{Cell}
+use Rattle.mon_words.specs.declared.history.Board.{Board}
+use Rattle.mon_words.specs.declared.history.Mark.{Mark}
+use Rattle.mon_words.specs.declared.history.Mark.TheVariants.{Off, Put}
+
+abbrev pub no_cell : Cell
+no_cell = record { base = 0; want = 0; live = 0 }
+
+abbrev pub cell_at : Board → ℕ → Cell
+cell_at b l = slice_index_or b.cells l no_cell
+
+abbrev pub clear_at : Board → ℕ → ℕ → Board
+clear_at b l k = record b { cells = slice_set b.cells l (clear (cell_at b l) k) }
+
+-- what stands after these marks: the last board, without the live bits that the disables behind it name
+abbrev pub after : Board → List Mark → Board
+after b [] = b
+after b (Off t l k ∷ ms) = after (clear_at b l k) ms
+after b (Put stops c ∷ ms) = after c ms
+
+-- the disables of a thread
+abbrev pub offs : ℕ → List Mark → List Mark
+offs t [] = []
+offs t (Off u l k ∷ ms) = cond (u == t) (Off u l k ∷ offs t ms) (offs t ms)
+offs t (Put stops c ∷ ms) = offs t ms
+
+-- the boards, with their stops
+abbrev pub puts : List Mark → List Mark
+puts [] = []
+puts (Off t l k ∷ ms) = puts ms
+puts (Put stops c ∷ ms) = Put stops c ∷ puts ms
+
+-- the later history begins with the earlier one
+pub record Begins (earlier later : List Mark) : Type 0 where
+  pub more : List Mark
+  pub is : later ≡ earlier ++ more

@@ -1,0 +1,53 @@
+-- A location's word: bits 0 to 7 the opcode in place, 8 to 15 the base, 16 to 39 what is wanted, 40 to 63 what is live.
+use Rattle.std.specs.Prelude.{◌≡◌, ℕ, ◌+◌, ◌-◌, ◌*◌, ◌/◌, ◌%◌, ◌^◌, ◌≤◌, Bool, ◌&&◌, cond, ◌==◌, nat_lt, bit_and}
+use Rattle.std.specs.Int.{bit_at}
+use Rattle.mon_events.specs.Events.{place}
+use Rattle.mon_events.specs.declared.event.Slot.{Slot}
+use Rattle.mon_words.specs.declared.history.Cell.{Cell}
+use Rattle.mon_words.specs.declared.word.Parts.{Parts}
+
+abbrev pub word_of : Parts → ℕ
+word_of p = p.place + p.base * 256 + p.want * 65536 + p.live * 1099511627776
+
+abbrev pub parts_of : ℕ → Parts
+parts_of n = record { place = n % 256; base = n / 256 % 256; want = n / 65536 % 16777216; live = n / 1099511627776 }
+
+-- what a word says beside the opcode in place
+abbrev pub cell_of : ℕ → Cell
+cell_of n = record { base = n / 256 % 256; want = n / 65536 % 16777216; live = n / 1099511627776 }
+
+abbrev pub is_bit : ℕ → ℕ → Bool
+is_bit n k = n / 2 ^ k % 2 == 1
+
+-- the event of a slot is enabled for a tool
+abbrev pub is_enabled : Cell → Slot → ℕ → Bool
+is_enabled c slot tool = is_bit c.want (place slot tool) && is_bit c.live (place slot tool)
+
+-- the cell with the live bit k cleared
+abbrev pub clear : Cell → ℕ → Cell
+clear c k = record c { live = c.live - bit_at c.live k * 2 ^ k }
+
+-- the enabled bits of slot number s
+abbrev pub enabled_in : Cell → ℕ → ℕ
+enabled_in c s = bit_and c.want c.live / 2 ^ (6 * s) % 64
+
+-- how much instrumented the opcode in place has to be: 3 where a LINE bit is enabled, else 2 where an INSTRUCTION bit
+-- is, else 1 where a MAIN bit is, else 0
+abbrev pub need : Cell → ℕ
+need c = cond (nat_lt 0 (enabled_in c 0)) 3 (cond (nat_lt 0 (enabled_in c 1)) 2 (cond (nat_lt 0 (enabled_in c 2)) 1 0))
+
+-- the opcode in place for a base, instrumented so much
+abbrev pub form : ℕ → ℕ → ℕ
+form base r = cond (r == 3) 128 (cond (r == 2) 129 (cond (r == 1) ((base + 64) % 256) base))
+
+-- an opcode that may stand in place: not less instrumented than the enabled bits need
+abbrev pub Allowed : Cell → ℕ → Type 0
+Allowed c place = (r : ℕ) × (r ≤ 3) × (need c ≤ r) × (place ≡ form c.base r)
+
+-- a word that may stand for the cell
+abbrev pub Shows : Cell → ℕ → Type 0
+Shows c n = (cell_of n ≡ c) × Allowed c (n % 256)
+
+-- the word with the least instrumented opcode that is allowed
+abbrev pub normal : ℕ → ℕ
+normal n = n - n % 256 + form (cell_of n).base (need (cell_of n))
