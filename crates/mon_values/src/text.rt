@@ -1,4 +1,4 @@
-ghost use Rattle.std.specs.Prelude.{◌≡◌, [], ◌∷◌, ◌++◌, length, ◌↔◌, IsTrue, IfOk, OnOk, OnErr, IsAscii};
+ghost use Rattle.std.specs.Prelude.{◌≡◌, [], ◌∷◌, ◌++◌, length, ◌↔◌, IsTrue, IfOk, OnOk, OnErr};
 
 use std::alloc::{AllocError, Global};
 use std::marker::Model;
@@ -43,9 +43,8 @@ impl Text {
         })
     }
 
-    /// The text of an ASCII string.
+    /// The text of an ASCII string; of another string, one character for each of its bytes.
     pub fn from_ascii(alloc: Global, ascii: &str) -> Result<Text, AllocError>
-        requires { IsAscii ascii.now }
         ensures { IfOk result (λ t. t ≡ ascii.now) }
     {
         let mut text = Text::new(alloc);
@@ -91,13 +90,12 @@ impl Text {
         self.items.extend_from_slice(more)
     }
 
-    /// Adds the characters of an ASCII string at the end; after an error, some of them may stand there.
+    /// Adds an ASCII string at the end, as `from_ascii` reads it; after an error a part of it may stand there.
     pub fn append_ascii(&mut self, ascii: &str) -> Result<(), AllocError>
-        requires { IsAscii ascii.now }
         ensures { OnOk result (self.new ≡ self.old ++ ascii.now) }
     {
-        for c in ascii.chars() {
-            self.items.push(c)?;
+        for byte in ascii.as_bytes() {
+            self.push(*byte as char)?;
         }
         Ok(())
     }
