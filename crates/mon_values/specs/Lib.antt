@@ -1,0 +1,12 @@
+pub mod Answers
+pub mod Arithmetic
+pub mod Classes
+pub mod Comparing
+pub mod Containing
+pub mod Indexing
+pub mod Integers
+pub mod Printing
+pub mod Ranges
+pub mod Troubles
+pub mod Truth
+pub mod Weights

@@ -1,0 +1,8 @@
+//! The values of the machine: what they are, how they compare, compute and print.
+#![tactic(auto)]
+
+pub mod compare;
+pub mod fault;
+pub mod operator;
+pub mod text;
+pub mod value;

@@ -1,0 +1,108 @@
+ghost use Rattle.std.specs.Prelude.{◌≡◌, [], ◌∷◌, ◌++◌, length, ◌↔◌, IsTrue, IfOk, OnOk, OnErr};
+
+use std::alloc::{AllocError, Global};
+use std::marker::Model;
+
+/// A text, which contracts see as the list of its characters.
+#[derive(Debug, Drop)]
+pub struct Text {
+    items: Vec<char>,
+}
+
+impl Model for Text {
+    ghost use Rattle.std.specs.Prelude.{List, ℕ};
+
+    ghost Value = { List ℕ };
+
+    ghost view = { λ t. t.items.items };
+}
+
+impl Text {
+    /// The empty text.
+    pub fn new(alloc: Global) -> Text
+        ensures { result ≡ [] }
+    {
+        Text {
+            items: Vec::new(alloc),
+        }
+    }
+
+    /// The text of these characters, without a copy.
+    pub fn from_vec(items: Vec<char>) -> Text
+        ensures { result ≡ items.items }
+    {
+        Text { items }
+    }
+
+    /// A copy of these characters.
+    pub fn from_chars(alloc: Global, chars: &[char]) -> Result<Text, AllocError>
+        ensures { IfOk result (λ t. t ≡ chars.now) }
+    {
+        Ok(Text {
+            items: Vec::from_slice(alloc, chars)?,
+        })
+    }
+
+    /// The text of an ASCII string; of another string, one character for each of its bytes.
+    pub fn from_ascii(alloc: Global, ascii: &str) -> Result<Text, AllocError>
+        ensures { IfOk result (λ t. t ≡ ascii.now) }
+    {
+        let mut text = Text::new(alloc);
+        text.append_ascii(ascii)?;
+        Ok(text)
+    }
+
+    /// The characters in order.
+    pub fn chars(&self) -> &[char]
+        ensures { result.now ≡ self.now }
+    {
+        self.items.as_slice()
+    }
+
+    /// The number of characters.
+    pub fn len(&self) -> usize
+        ensures { result ≡ length self.now }
+    {
+        self.items.len()
+    }
+
+    /// Whether there is no character.
+    pub fn is_empty(&self) -> bool
+        ensures { IsTrue result ↔ (self.now ≡ []) }
+    {
+        self.items.is_empty()
+    }
+
+    /// Adds a character at the end.
+    pub fn push(&mut self, c: char) -> Result<(), AllocError>
+        ensures ok { OnOk result (self.new ≡ self.old ++ c ∷ []) }
+        ensures err { OnErr result (self.new ≡ self.old) }
+    {
+        self.items.push(c)?;
+        Ok(())
+    }
+
+    /// Adds characters at the end.
+    pub fn append(&mut self, more: &[char]) -> Result<(), AllocError>
+        ensures ok { OnOk result (self.new ≡ self.old ++ more.now) }
+        ensures err { OnErr result (self.new ≡ self.old) }
+    {
+        self.items.extend_from_slice(more)
+    }
+
+    /// Adds an ASCII string at the end, as `from_ascii` reads it; after an error a part of it may stand there.
+    pub fn append_ascii(&mut self, ascii: &str) -> Result<(), AllocError>
+        ensures { OnOk result (self.new ≡ self.old ++ ascii.now) }
+    {
+        for byte in ascii.as_bytes() {
+            self.push(*byte as char)?;
+        }
+        Ok(())
+    }
+
+    pub fn copy(&self, alloc: Global) -> Result<Text, AllocError>
+        ensures { IfOk result (λ t. t ≡ self.now) }
+    {
+        Text::from_chars(alloc, self.chars())
+    }
+}
