@@ -1,6 +1,8 @@
 //! Checked programs: what the compiler hands to the machine.
 #![tactic(auto)]
 
+mod operator;
 mod program;
 
+pub use operator::{arith_number, arith_op_of_number, cmp_number, cmp_op_of_number};
 pub use program::{Code, Location, Program};

@@ -44,7 +44,6 @@ pub struct Program {
 impl Model for Program {
     ghost use Rattle.mon_code.specs.Programs.{Parts};
     ghost use Rattle.mon_code.specs.Checked.{IsChecked};
-
     ghost use Rattle.mon_code.specs.declared.program.Code.{Code as CodeOf};
     ghost use Rattle.mon_code.specs.contracts.program.Code as code;
     ghost use Rattle.std.specs.Prelude.{ℕ, List, refl};

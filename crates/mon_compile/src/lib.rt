@@ -1,0 +1,4 @@
+//! From the text of a module to its program.
+#![tactic(auto)]
+
+pub mod tree;
