@@ -1,6 +1,6 @@
 -- How two values stand to each other.
 use Rattle.std.specs.Prelude.{ℕ, zero, suc, ◌==◌, List, [], ◌∷◌, Option, Some, None, Bool, true, false, ◌&&◌, ◌||◌, not, ℤ, Result, Ok, Err, if◌then◌else◌}
-use Rattle.std.specs.Ordering.{nat_cmp, int_cmp}
+use Rattle.std.specs.Ordering.{nat_cmp, int_cmp, int_eq}
 use Rattle.std.specs.declared.cmp.Ordering.{Ordering}
 use Rattle.std.specs.declared.cmp.Ordering.TheVariants as order
 use Rattle.mon_values.specs.declared.operator.CmpOp.{CmpOp}
@@ -69,15 +69,13 @@ option_verdict verdict (Some a) (Some b) = same (is_equal (verdict a b))
 option_verdict verdict None (Some b) = Unequal
 option_verdict verdict (Some a) None = Unequal
 
--- two ranges of as many integers are equal where none has any, or the first integers are equal and one has no more or the steps are equal
-abbrev pub equal_ranges : ℕ → ℤ → ℤ → ℤ → ℤ → Bool
-equal_ranges zero start step start' step' = true
-equal_ranges (suc zero) start step start' step' = is_equal (by_order (int_cmp start start'))
-equal_ranges (suc (suc n)) start step start' step' = is_equal (by_order (int_cmp start start')) && is_equal (by_order (int_cmp step step'))
+-- ranges are equal as sequences: as many integers, and none, or the same first one and no second, or the same first one and the same step
+abbrev pub same_items : ℕ → ℕ → Bool → Bool → Bool
+same_items count count' same_start same_step = count == count' && (count == 0 || (same_start && (count == 1 || same_step)))
 
--- ranges go as sequences
-abbrev pub range_verdict : ℕ → ℕ → ℤ → ℤ → ℤ → ℤ → Verdict
-range_verdict n n' start step start' step' = same (n == n' && equal_ranges n start step start' step')
+abbrev pub same_ranges : ℤ → ℤ → ℤ → ℤ → ℤ → ℤ → Bool
+same_ranges start stop step start' stop' step' =
+    same_items (range_length start stop step) (range_length start' stop' step') (int_eq start start') (int_eq step step')
 
 abbrev pub verdict_at : Value-F Beside ExcBeside → Value-F Value Exc → Verdict
 verdict_at Value-F.None Value-F.None = Equal
@@ -93,7 +91,7 @@ verdict_at (Value-F.ExcClass a) (Value-F.ExcClass b) = same (a == b)
 verdict_at (Value-F.Exc a) (Value-F.Exc b) = a b
 verdict_at (Value-F.Gen a) (Value-F.Gen b) = same (a == b)
 verdict_at (Value-F.Iter a) (Value-F.Iter b) = same (a == b)
-verdict_at (Value-F.Range a b c) (Value-F.Range d e f) = range_verdict (range_length a b c) (range_length d e f) a c d f
+verdict_at (Value-F.Range a b c) (Value-F.Range d e f) = same (same_ranges a b c d e f)
 verdict_at (Value-F.Done a) (Value-F.Done b) = option_verdict (λ x y. x y) a b
 verdict_at _ _ = Unequal
 

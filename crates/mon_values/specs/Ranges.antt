@@ -13,8 +13,12 @@ range_length start stop (negsuc k) = div_ceil (times (start -ℤ stop)) (suc k)
 abbrev pub range_item : ℤ → ℤ → ℕ → ℤ
 range_item start step place = start +ℤ pos place *ℤ step
 
--- whether z stands between start and stop, in the step's direction, and a whole number of steps from start
+-- whether z stands between start and stop, in the step's direction
+abbrev pub is_between : ℤ → ℤ → ℤ → ℤ → Bool
+is_between start stop (pos zero) z = false
+is_between start stop (pos (suc k)) z = int_le start z && int_lt z stop
+is_between start stop (negsuc k) z = int_le z start && int_lt stop z
+
+-- whether z is an integer of the range: it stands between, a whole number of steps from start
 abbrev pub is_range_item : ℤ → ℤ → ℤ → ℤ → Bool
-is_range_item start stop (pos zero) z = false
-is_range_item start stop (pos (suc k)) z = int_le start z && int_lt z stop && unsigned_abs (z -ℤ start) % suc k == 0
-is_range_item start stop (negsuc k) z = int_le z start && int_lt stop z && unsigned_abs (start -ℤ z) % suc k == 0
+is_range_item start stop step z = is_between start stop step z && unsigned_abs (z -ℤ start) % unsigned_abs step == 0

@@ -1,5 +1,5 @@
 -- How much a value weighs, how deeply it is nested, and what answers a value that is made.
-use Rattle.std.specs.Prelude.{ℕ, ◌+◌, max, List, [], ◌∷◌, sum, length, Option, Some, None, Bool, true, false, nat_le, Result, Ok, Err, if◌then◌else◌}
+use Rattle.std.specs.Prelude.{ℕ, ◌+◌, ◌-◌, max, List, [], ◌∷◌, sum, length, Option, Some, None, Bool, true, false, nat_le, Result, Ok, Err, if◌then◌else◌}
 use Rattle.mon_values.specs.declared.value.Value.{Value}
 use Rattle.mon_values.specs.declared.value.Value.TheOpen.{Value-F, Exc-F}
 use Rattle.mon_values.specs.declared.value.Value.TheFolds.{fold-Value, fold-Exc}
@@ -62,3 +62,7 @@ made v = within_limits (weight v) (depth v) v
 
 abbrev pub made_exc : Exc → Result Exc Trouble
 made_exc e = within_limits (exc_weight e) (exc_depth e) e
+
+-- what is left of a budget after a weight, if it suffices
+abbrev pub left_of : ℕ → ℕ → Option ℕ
+left_of budget w = if nat_le w budget then Some (budget - w) else None

@@ -4,5 +4,8 @@
 pub mod compare;
 pub mod fault;
 pub mod operator;
+pub mod range;
 pub mod text;
+pub mod truth;
 pub mod value;
+pub mod weight;
