@@ -1,4 +1,5 @@
-ghost use Rattle.std.specs.Prelude.{◌≡◌, length};
+ghost use Rattle.std.specs.Prelude.{◌≡◌, ◌+◌, ◌≤◌, length, slice_get};
+ghost use Rattle.std.specs.Option.{option_copied};
 ghost use Rattle.mon_code.specs.Programs as spec;
 
 use mon_values::text::Text;
@@ -60,6 +61,7 @@ impl Model for Program {
 
 impl Program {
     ghost use Rattle.mon_code.specs.Checked.{IsChecked};
+    ghost use Rattle.mon_code.specs.declared.program.Code.{Code as CodeOf};
 
     /// The program of these codes.
     pub fn new(names: Items<Text>, codes: Items<Code>, bases: Items<u8>) -> Program
@@ -79,6 +81,15 @@ impl Program {
         ensures count { result ≡ length self.now.bases }
     {
         self.bases.len() as u32
+    }
+
+    /// The code of this number.
+    pub fn code(&self, number: u16) -> Option<&Code>
+        ensures value { option_copied result ≡ slice_get self.now.codes number }
+        ensures inside { (c : CodeOf) → slice_get self.now.codes number ≡ Some c → c.first + length c.locations ≤ length self.now.bases }
+        ensures small { length self.now.bases ≤ 65536 }
+    {
+        self.codes.get(number as usize)
     }
 
     /// The number of the code with this name.

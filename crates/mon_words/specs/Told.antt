@@ -26,6 +26,8 @@ pub record Loads (a : Told) (location word : ℕ) (b : Told) : Type 0 where
   pub own : offs a.number b.seen ≡ a.own
   pub rest : b ≡ record a { seen = b.seen }
   pub shows : Shows (cell_at (after a.first b.seen) location) word
+  -- base opcodes never change
+  pub base : (cell_of word).base ≡ (cell_at a.first location).base
 
 -- words that nobody else changes
 abbrev pub plain_board : List ℕ → Board
