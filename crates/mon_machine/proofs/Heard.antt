@@ -17,8 +17,9 @@ use Rattle.mon_words.specs.declared.history.Board.{Board}
 use Rattle.mon_words.specs.declared.history.Cell.{Cell}
 use Rattle.mon_recorders.specs.declared.record.Record.{Record}
 use Rattle.mon_recorders.specs.Happenings.{Happening, Kind, Local, Global, Ancillary, record_of}
-use Rattle.mon_machine.specs.Step.{State, Step, step}
-use Rattle.mon_machine.specs.Run.{after_steps, is_line, is_heard, records_for, heard_one, heard, records_of}
+use Rattle.mon_machine.specs.Step.{State, Step, step, goes}
+use Rattle.mon_machine.proofs.Runs.{stands_still, nothing_happens}
+use Rattle.mon_machine.specs.Run.{after_steps, steps_done, is_line, is_heard, records_for, heard_one, heard, records_of}
 use Rattle.mon_machine.specs.Serial.{wants_line, line_records, WantsLine, HasLineWants}
 use Rattle.mon_machine.specs.Laws.{AtMarked, MarksLine, is_line_kind}
 
@@ -125,3 +126,40 @@ records_of_lines p tool b i s (at ∷ positions) each =
     let rest : records_of p b [] (i + 1) (step p s).after positions ≡ line_records p tool (i + 1) (step p s).after (length positions)
     = records_of_lines p tool b (i + 1) (step p s).after positions (λ n j. each (suc n) j) in
     rw (here, rest) refl
+
+-- of some steps and then some more
+pub line_records_sum : (p : Parts) (tool i : ℕ) (s : State) (m n : ℕ) → line_records p tool i s (m + n) ≡ line_records p tool i s m ++ line_records p tool (i + m) (after_steps p s m) n
+unfolding line_records after_steps
+line_records_sum p tool i s zero n =
+    let e : 0 + n ≡ n = omega arith in
+    let f : i + 0 ≡ i = omega arith in
+    ap (λ (k : ℕ). line_records p tool i s k) e ∙ ap (λ (k : ℕ). line_records p tool k s n) (sym f)
+line_records_sum p tool i s (suc m) n =
+    let e : suc m + n ≡ suc (m + n) = omega arith in
+    let f : i + 1 + m ≡ i + suc m = omega arith in
+    let here = heard (wants_line tool) i (step p s).events in
+    ap (λ (k : ℕ). line_records p tool i s k) e
+    ∙ ap (λ (r : List Record). here ++ r) (line_records_sum p tool (i + 1) (step p s).after m n)
+    ∙ sym (append_assoc here (line_records p tool (i + 1) (step p s).after m) (line_records p tool (i + 1 + m) (after_steps p (step p s).after m) n))
+    ∙ ap (λ (k : ℕ). (here ++ line_records p tool (i + 1) (step p s).after m) ++ line_records p tool k (after_steps p (step p s).after m) n) f
+
+-- a thread that does not go on is not heard
+pub line_records_ended : (p : Parts) (tool i : ℕ) (s : State) (n : ℕ) → goes s.mode ≡ false → line_records p tool i s n ≡ []
+unfolding line_records
+line_records_ended p tool i s zero e = refl
+line_records_ended p tool i s (suc n) e =
+    let still : (step p s).after ≡ s = stands_still p s e in
+    let none : (step p s).events ≡ [] = nothing_happens p s e in
+    ap (λ (hs : List Happening). heard (wants_line tool) i hs ++ line_records p tool (i + 1) (step p s).after n) none
+    ∙ ap (λ (t : State). line_records p tool (i + 1) t n) still ∙ line_records_ended p tool (i + 1) s n e
+
+-- so the steps that it does are all that are heard
+pub line_records_done : (p : Parts) (tool i : ℕ) (s : State) (n : ℕ) → line_records p tool i s (steps_done p s n) ≡ line_records p tool i s n
+unfolding line_records steps_done
+line_records_done p tool i s zero = refl
+line_records_done p tool i s (suc n) = pick (goes s.mode) refl (line_records_done p tool (i + 1) (step p s).after n)
+  where
+    pick : (b : Bool) → goes s.mode ≡ b → line_records p tool (i + 1) (step p s).after (steps_done p (step p s).after n) ≡ line_records p tool (i + 1) (step p s).after n
+        → line_records p tool i s (if b then steps_done p (step p s).after n + 1 else 0) ≡ heard (wants_line tool) i (step p s).events ++ line_records p tool (i + 1) (step p s).after n
+    pick true e h = line_records_more p tool i s (steps_done p (step p s).after n) ∙ ap (λ (r : List Record). heard (wants_line tool) i (step p s).events ++ r) h
+    pick false e h = sym (line_records_ended p tool i s (suc n) e)

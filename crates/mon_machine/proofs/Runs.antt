@@ -1,5 +1,5 @@
 -- Runs, step by step.
-use Rattle.std.proofs.Common.{◌≡◌, ℕ, zero, suc, ◌+◌, ◌-◌, ◌<◌, ◌≤◌, Bool, true, false, refl, sym, ap, ◌∙◌, arith, add-one, subst}
+use Rattle.std.proofs.Common.{[], ◌≡◌, ℕ, zero, suc, ◌+◌, ◌-◌, ◌<◌, ◌≤◌, Bool, true, false, refl, sym, ap, ◌∙◌, arith, add-one, subst}
 use Rattle.std.specs.Prelude.{if◌then◌else◌}
 use Rattle.mon_values.specs.declared.value.Exc.{Exc}
 use Rattle.mon_code.specs.Programs.{Parts}
@@ -105,6 +105,47 @@ goes_one p s e = (e, tt)
 -- one step more, where it goes on
 pub goes_one_more : (p : Parts) (s : State) (n : ℕ) → Goes p s n → goes (after_steps p s n).mode ≡ true → Goes p s (n + 1)
 goes_one_more p s n g e = goes_sum p s n 1 g (goes_one p (after_steps p s n) e)
+
+-- a thread goes on before each step that it does
+pub goes_done : (p : Parts) (s : State) (n : ℕ) → Goes p s (steps_done p s n)
+unfolding steps_done Goes
+goes_done p s zero = tt
+goes_done p s (suc n) = pick (goes s.mode) refl (goes_done p (step p s).after n)
+  where
+    pick : (b : Bool) → goes s.mode ≡ b → Goes p (step p s).after (steps_done p (step p s).after n) → Goes p s (if b then steps_done p (step p s).after n + 1 else 0)
+    pick true e g = subst (λ (k : ℕ). Goes p s k) (sym (add-one (steps_done p (step p s).after n))) (e, g)
+    pick false e g = tt
+
+-- and is where it is after these
+pub after_steps_done : (p : Parts) (s : State) (n : ℕ) → after_steps p s (steps_done p s n) ≡ after_steps p s n
+unfolding steps_done after_steps
+after_steps_done p s zero = refl
+after_steps_done p s (suc n) = pick (goes s.mode) refl (after_steps_done p (step p s).after n)
+  where
+    pick : (b : Bool) → goes s.mode ≡ b → after_steps p (step p s).after (steps_done p (step p s).after n) ≡ after_steps p (step p s).after n
+        → after_steps p s (if b then steps_done p (step p s).after n + 1 else 0) ≡ after_steps p (step p s).after n
+    pick true e h = after_steps_first p s (steps_done p (step p s).after n) ∙ h
+    pick false e h = sym (stands_still_on p s (suc n) e)
+
+pub steps_done_within : (p : Parts) (s : State) (n : ℕ) → steps_done p s n ≤ n
+unfolding steps_done
+steps_done_within p s zero = omega arith
+steps_done_within p s (suc n) = pick (goes s.mode) (steps_done_within p (step p s).after n)
+  where
+    pick : (b : Bool) → steps_done p (step p s).after n ≤ n → (if b then steps_done p (step p s).after n + 1 else 0) ≤ suc n
+    pick true h = omega arith
+    pick false h = omega arith
+
+silent : (p : Parts) (f : Frame) (m : Mode) → goes m ≡ false → (in_mode p f m).events ≡ []
+silent p f Mode.Run e = let h : true ≡ false = e in cc
+silent p f (Mode.Unwind x) e = let h : true ≡ false = e in cc
+silent p f (Mode.Ended outcome) e = refl
+silent p f Mode.Stuck e = refl
+
+-- nothing happens where a state does not go on
+pub nothing_happens : (p : Parts) (s : State) → goes s.mode ≡ false → (step p s).events ≡ []
+unfolding step
+nothing_happens p s e = silent p s.frame s.mode e
 
 pub is_run : GoesOnByOne
 is_run p s n = record {

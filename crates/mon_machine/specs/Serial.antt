@@ -1,5 +1,5 @@
 -- What one tool hears that listens to LINE everywhere, alone.
-use Rattle.std.specs.Prelude.{ℕ, zero, suc, ◌+◌, ◌^◌, ◌<◌, ◌≡◌, ◌==◌, Bool, true, false, ◌&&◌, List, [], ◌++◌, Some, slice_get, if◌then◌else◌}
+use Rattle.std.specs.Prelude.{ℕ, zero, suc, ◌+◌, ◌^◌, ◌<◌, ◌≡◌, ◌==◌, Bool, true, false, ◌&&◌, List, [], ◌∷◌, ◌++◌, length, Some, slice_get, if◌then◌else◌}
 use Rattle.mon_code.specs.declared.program.Code.{Code}
 use Rattle.mon_code.specs.declared.program.Location.{Location}
 use Rattle.mon_code.specs.Programs.{Parts, location_at}
@@ -29,3 +29,13 @@ pub record WantsLine (tool : ℕ) (b : Board) (number : ℕ) (l : Location) : Ty
 pub record HasLineWants (p : Parts) (tool : ℕ) (b : Board) : Type 0 where
   pub within : tool < 6
   pub cells : (k i : ℕ) (c : Code) (l : Location) → slice_get p.codes k ≡ Some c → location_at c i ≡ Some l → WantsLine tool b (c.first + i) l
+
+-- one thing for each of these locations, which are numbered from `from` on
+abbrev pub of_locations : {X : Type 0} → (ℕ → Location → X) → ℕ → List Location → List X
+of_locations g from [] = []
+of_locations g from (l ∷ ls) = g from l ∷ of_locations g (from + 1) ls
+
+-- one for each location of these codes in turn
+abbrev pub of_codes : {X : Type 0} → (ℕ → Location → X) → ℕ → List Code → List X
+of_codes g from [] = []
+of_codes g from (c ∷ cs) = of_locations g from c.locations ++ of_codes g (from + length c.locations) cs
