@@ -1,5 +1,5 @@
 -- The laws of a call's run.
-use Rattle.std.proofs.Common.{◌≡◌, ℕ, zero, suc, ◌+◌, ◌-◌, ◌<◌, ◌≤◌, Bool, true, false, ◌⊎◌, inl, inr, List, [], ◌∷◌, ◌++◌, length, map, replicate, refl, sym, ap, subst, ◌∙◌, arith, length-append}
+use Rattle.std.proofs.Common.{◌≡◌, ℕ, zero, suc, ◌-◌, inr, List, length, map, replicate, refl, sym, ap, subst, ◌∙◌, arith, length-append}
 use Rattle.std.specs.Prelude.{Option, Some, None, slice_get}
 use Rattle.std.specs.List.{AllByRecursion}
 use Rattle.std.proofs.lemmas.List.{length-map, length-replicate}
@@ -8,14 +8,13 @@ use Rattle.mon_events.specs.declared.op.Op.{Op}
 use Rattle.mon_code.specs.declared.program.Code.{Code}
 use Rattle.mon_code.specs.declared.program.Location.{Location}
 use Rattle.mon_code.specs.Programs.{Parts, op_at, location_at}
-use Rattle.mon_code.specs.Checked.{IsChecked, IsCode, FitsOp}
-use Rattle.mon_words.specs.declared.history.Board.{Board}
+use Rattle.mon_code.specs.Checked.{IsCode, FitsOp}
 use Rattle.mon_frames.specs.declared.frame.Frame.{Frame}
 use Rattle.mon_machine.specs.declared.mode.Mode.{Mode}
 use Rattle.mon_machine.specs.Step.{State, Step, step, in_mode, in_code, at_location, start}
 use Rattle.mon_machine.specs.Run.{after_steps, is_heard, heard}
-use Rattle.mon_machine.specs.Serial.{wants_line, HasLineWants}
-use Rattle.mon_machine.specs.Laws.{IsCall, NeverStuck, MarksLine, LineMarks, HearsLines, HeardByWants}
+use Rattle.mon_machine.specs.Serial.{wants_line}
+use Rattle.mon_machine.specs.Laws.{IsCall, NeverStuck, MarksLine, LineMarks, HeardByWants}
 use Rattle.mon_machine.proofs.Fitting.{KnownAt, line_before, known_at, FoundAt, found_at, checked_code}
 use Rattle.mon_machine.proofs.Keeping.{IsAt, IsIn, Keeps, executed_keeps}
 use Rattle.mon_machine.proofs.Lines.{executed_marked}

@@ -1,25 +1,23 @@
 -- What is heard of a step.
-use Rattle.std.proofs.Common.{◌≡◌, ◌≢◌, ℕ, zero, suc, ◌+◌, ◌*◌, ◌/◌, ◌%◌, ◌^◌, ◌<◌, ◌≤◌, ◌==◌, Bool, true, false, ◌&&◌, List, [], ◌∷◌, ◌++◌, length, take, replicate, refl, sym, ap, subst, ◌∙◌, arith, add-one, append_assoc, append-nil}
-use Rattle.std.specs.Prelude.{if◌then◌else◌, Option, Some, None, slice_get}
+use Rattle.std.proofs.Common.{◌≡◌, ◌≢◌, ℕ, zero, suc, ◌+◌, ◌^◌, ◌<◌, ◌==◌, Bool, true, false, ◌&&◌, List, [], ◌∷◌, ◌++◌, length, take, refl, sym, ap, subst, ◌∙◌, arith, add-one, append_assoc}
+use Rattle.std.specs.Prelude.{if◌then◌else◌, Some, slice_get}
 use Rattle.std.specs.List.{AllByRecursion}
 use Rattle.std.specs.Int.{bit_at}
-use Rattle.std.proofs.lemmas.Nat.Bits.{bit_at-pow_same, bit_at-pow_other, bit_at-zero, bit_at_ones}
+use Rattle.std.proofs.lemmas.Nat.Bits.{bit_at-pow_same, bit_at-pow_other, bit_at_ones}
 use Rattle.std.proofs.lemmas.Bool.Decides.{nat_tests}
-use Rattle.mon_events.specs.declared.event.Event.{Event}
 use Rattle.mon_events.specs.declared.event.Slot.{Slot}
 use Rattle.mon_events.specs.Events.{place}
 use Rattle.mon_code.specs.declared.program.Code.{Code}
 use Rattle.mon_code.specs.declared.program.Location.{Location}
-use Rattle.mon_code.specs.Programs.{Parts, location_at}
+use Rattle.mon_code.specs.Programs.{Parts}
 use Rattle.mon_words.specs.Words.{is_bit, is_enabled}
 use Rattle.mon_words.specs.History.{after, cell_at}
 use Rattle.mon_words.specs.declared.history.Board.{Board}
-use Rattle.mon_words.specs.declared.history.Cell.{Cell}
 use Rattle.mon_recorders.specs.declared.record.Record.{Record}
 use Rattle.mon_recorders.specs.Happenings.{Happening, Kind, Local, Global, Ancillary, record_of}
-use Rattle.mon_machine.specs.Step.{State, Step, step, goes}
+use Rattle.mon_machine.specs.Step.{State, step, goes}
 use Rattle.mon_machine.proofs.Runs.{stands_still, nothing_happens}
-use Rattle.mon_machine.specs.Run.{after_steps, steps_done, is_line, is_heard, records_for, heard_one, heard, records_of}
+use Rattle.mon_machine.specs.Run.{after_steps, steps_done, is_heard, records_for, heard_one, heard, records_of}
 use Rattle.mon_machine.specs.Serial.{wants_line, line_records, WantsLine, HasLineWants}
 use Rattle.mon_machine.specs.Laws.{AtMarked, MarksLine, is_line_kind}
 

@@ -1,11 +1,9 @@
 -- What a step keeps of a state: where it is in its code, with how much, and behind which line.
-use Rattle.std.proofs.Common.{◌≡◌, ℕ, zero, suc, ◌+◌, ◌-◌, ◌<◌, ◌≤◌, ◌==◌, Bool, true, false, ◌⊎◌, inl, inr, List, [], ◌∷◌, length, refl, sym, ap, subst, ◌∙◌, arith, nat_lt}
+use Rattle.std.proofs.Common.{◌≡◌, ℕ, zero, suc, ◌+◌, ◌-◌, ◌<◌, ◌≤◌, Bool, true, false, ◌⊎◌, inl, inr, List, [], ◌∷◌, length, refl, sym, ap, subst, ◌∙◌, arith, nat_lt}
 use Rattle.std.specs.Prelude.{Option, Some, None, Result, Ok, Err, slice_get, slice_set, IsTrue, if◌then◌else◌}
-use Rattle.std.proofs.lemmas.Option.{same_Some, none-some, slice_get_cases}
 use Rattle.std.proofs.lemmas.List.{length-set}
 use Rattle.std.proofs.lemmas.Bool.{lt-ltb}
 use Rattle.mon_values.specs.declared.value.Value.{Value}
-use Rattle.mon_values.specs.declared.value.Exc.{Exc}
 use Rattle.mon_values.specs.declared.fault.Trouble.{Trouble}
 use Rattle.mon_values.specs.declared.operator.ArithOp.{ArithOp}
 use Rattle.mon_values.specs.declared.operator.CmpOp.{CmpOp}
@@ -17,11 +15,10 @@ use Rattle.mon_code.specs.declared.program.Code.{Code}
 use Rattle.mon_code.specs.declared.program.Location.{Location}
 use Rattle.mon_code.specs.Programs.{Parts, op_at, location_at}
 use Rattle.mon_code.specs.Operators.{arith_op_of, cmp_op_of}
-use Rattle.mon_code.specs.Checked.{IsCode, Fits, Records, is_target, effect_of, IsWithin, operands, Lands}
+use Rattle.mon_code.specs.Checked.{Fits, Records, is_target, effect_of}
 use Rattle.mon_frames.specs.declared.frame.Frame.{Frame}
-use Rattle.mon_recorders.specs.declared.report.Outcome.{Outcome}
 use Rattle.mon_machine.specs.declared.mode.Mode.{Mode}
-use Rattle.mon_machine.specs.Step.{State, Step, step, in_mode, in_code, at_location, executed, effect, ends, goes_on, gives, load_const, load_fast, or_empty, store_fast, on_two, binary_op, as_value, compare_op, pop_jump_if_false, return_value, line_after}
+use Rattle.mon_machine.specs.Step.{State, executed, effect, ends, goes_on, gives, load_const, load_fast, or_empty, store_fast, on_two, binary_op, as_value, compare_op, pop_jump_if_false, return_value, line_after}
 use Rattle.mon_machine.proofs.Fitting.{line_before, line_before_next, target_at}
 
 -- the last line is that of the instruction before, where this has one

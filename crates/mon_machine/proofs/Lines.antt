@@ -11,13 +11,13 @@ use Rattle.mon_events.specs.declared.op.Op.{Op}
 use Rattle.mon_events.specs.Ops.{main_event}
 use Rattle.mon_code.specs.declared.program.Code.{Code}
 use Rattle.mon_code.specs.declared.program.Location.{Location}
-use Rattle.mon_code.specs.Programs.{Parts, op_at, location_at}
+use Rattle.mon_code.specs.Programs.{Parts, location_at}
 use Rattle.mon_code.specs.Checked.{is_marked, is_target, follows_line}
 use Rattle.mon_frames.specs.declared.frame.Frame.{Frame}
-use Rattle.mon_recorders.specs.Happenings.{Happening, Kind, Local, Global}
+use Rattle.mon_recorders.specs.Happenings.{Happening, Local}
 use Rattle.mon_machine.specs.declared.mode.Mode.{Mode}
 use Rattle.mon_machine.specs.Step.{State, happens, line_events, main_events, main_happening, raise_events, executed, effect, line_after}
-use Rattle.mon_machine.specs.Laws.{AtMarked, MarksLine, is_line_kind}
+use Rattle.mon_machine.specs.Laws.{MarksLine, is_line_kind}
 use Rattle.mon_machine.proofs.Fitting.{KnownAt, line_before}
 use Rattle.mon_machine.proofs.Keeping.{Follows, IsAt}
 

@@ -1,6 +1,6 @@
 -- The locations of a program by their numbers.
-use Rattle.std.proofs.Common.{◌≡◌, ℕ, zero, suc, ◌+◌, ◌^◌, ◌<◌, ◌≤◌, Bool, List, [], ◌∷◌, ◌++◌, length, map, refl, sym, ap, subst, ◌∙◌, arith, length-append}
-use Rattle.std.specs.Prelude.{Option, Some, None, option_map, slice_get, if◌then◌else◌}
+use Rattle.std.proofs.Common.{◌≡◌, ℕ, zero, suc, ◌+◌, ◌^◌, ◌<◌, List, [], ◌∷◌, ◌++◌, length, map, refl, sym, ap, ◌∙◌, arith, length-append}
+use Rattle.std.specs.Prelude.{Some, option_map, slice_get, if◌then◌else◌}
 use Rattle.std.proofs.lemmas.Option.{same_Some, none-some, get_or_from_slice_get, slice_get-map}
 use Rattle.mon_code.specs.declared.program.Code.{Code}
 use Rattle.mon_code.specs.declared.program.Location.{Location}
@@ -10,7 +10,6 @@ use Rattle.mon_words.specs.Words.{cell_of}
 use Rattle.mon_words.specs.History.{cell_at, no_cell}
 use Rattle.mon_words.specs.Told.{plain_board}
 use Rattle.mon_words.specs.declared.history.Cell.{Cell}
-use Rattle.mon_words.specs.declared.history.Board.{Board}
 use Rattle.mon_machine.specs.Serial.{WantsLine, HasLineWants, of_locations, of_codes}
 
 length_locations : {X : Type 0} (g : ℕ → Location → X) (from : ℕ) (ls : List Location) → length (of_locations g from ls) ≡ length ls

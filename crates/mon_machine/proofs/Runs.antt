@@ -1,14 +1,12 @@
 -- Runs, step by step.
-use Rattle.std.proofs.Common.{[], ◌≡◌, ℕ, zero, suc, ◌+◌, ◌-◌, ◌<◌, ◌≤◌, Bool, true, false, refl, sym, ap, ◌∙◌, arith, add-one, subst}
+use Rattle.std.proofs.Common.{[], ◌≡◌, ℕ, zero, suc, ◌+◌, ◌-◌, ◌≤◌, Bool, true, false, refl, sym, ap, ◌∙◌, arith, add-one, subst}
 use Rattle.std.specs.Prelude.{if◌then◌else◌}
-use Rattle.mon_values.specs.declared.value.Exc.{Exc}
 use Rattle.mon_code.specs.Programs.{Parts}
 use Rattle.mon_frames.specs.declared.frame.Frame.{Frame}
-use Rattle.mon_recorders.specs.declared.report.Outcome.{Outcome}
 use Rattle.mon_machine.specs.declared.mode.Mode.{Mode}
-use Rattle.mon_machine.specs.Step.{State, Step, step, in_mode, ends, goes}
+use Rattle.mon_machine.specs.Step.{State, step, in_mode, ends, goes}
 use Rattle.mon_machine.specs.Run.{after_steps, steps_done, Goes}
-use Rattle.mon_machine.specs.Laws.{IsRun, GoesOnByOne}
+use Rattle.mon_machine.specs.Laws.{GoesOnByOne}
 
 pub after_steps_none : (p : Parts) (s : State) → after_steps p s 0 ≡ s
 unfolding after_steps

@@ -1,5 +1,5 @@
 -- The laws of the plain machine.
-use Rattle.std.specs.Prelude.{ℕ, ◌+◌, ◌≤◌, ◌≡◌, Bool, true, false, List, [], length, Option, Some, slice_get}
+use Rattle.std.specs.Prelude.{ℕ, ◌+◌, ◌≤◌, ◌≡◌, Bool, true, false, List, [], length, Some, slice_get}
 use Rattle.std.specs.List.{AllByRecursion}
 use Rattle.mon_values.specs.declared.value.Value.{Value}
 use Rattle.mon_events.specs.declared.event.Event.{Event}
@@ -11,7 +11,7 @@ use Rattle.mon_code.specs.Checked.{IsChecked}
 use Rattle.mon_words.specs.declared.history.Board.{Board}
 use Rattle.mon_recorders.specs.Happenings.{Happening, Kind, Local, Global, Ancillary}
 use Rattle.mon_machine.specs.declared.mode.Mode.{Mode}
-use Rattle.mon_machine.specs.Step.{State, Step, step, goes, start}
+use Rattle.mon_machine.specs.Step.{State, step, goes, start}
 use Rattle.mon_machine.specs.Run.{after_steps, steps_done, Goes, is_line, is_heard, heard, records_of}
 use Rattle.mon_machine.specs.Serial.{wants_line, line_records, HasLineWants}
 

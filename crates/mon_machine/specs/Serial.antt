@@ -1,5 +1,5 @@
 -- What one tool hears that listens to LINE everywhere, alone.
-use Rattle.std.specs.Prelude.{ℕ, zero, suc, ◌+◌, ◌^◌, ◌<◌, ◌≡◌, ◌==◌, Bool, true, false, ◌&&◌, List, [], ◌∷◌, ◌++◌, length, Some, slice_get, if◌then◌else◌}
+use Rattle.std.specs.Prelude.{ℕ, zero, suc, ◌+◌, ◌^◌, ◌<◌, ◌≡◌, ◌==◌, Bool, false, ◌&&◌, List, [], ◌∷◌, ◌++◌, length, Some, slice_get, if◌then◌else◌}
 use Rattle.mon_code.specs.declared.program.Code.{Code}
 use Rattle.mon_code.specs.declared.program.Location.{Location}
 use Rattle.mon_code.specs.Programs.{Parts, location_at}
@@ -7,7 +7,7 @@ use Rattle.mon_words.specs.declared.history.Board.{Board}
 use Rattle.mon_words.specs.History.{cell_at}
 use Rattle.mon_recorders.specs.declared.record.Record.{Record}
 use Rattle.mon_recorders.specs.Happenings.{Kind, Local, Global, Ancillary}
-use Rattle.mon_machine.specs.Step.{State, Step, step}
+use Rattle.mon_machine.specs.Step.{State, step}
 use Rattle.mon_machine.specs.Run.{is_line, heard}
 
 abbrev pub wants_line : ℕ → Kind → ℕ → Bool
