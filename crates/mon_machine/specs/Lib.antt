@@ -1,2 +1,4 @@
 pub mod Step
 pub mod Run
+pub mod Serial
+pub mod Laws

@@ -10,7 +10,7 @@ use Rattle.mon_recorders.specs.declared.record.Record.{Record}
 use Rattle.mon_recorders.specs.declared.report.Outcome.{Outcome}
 use Rattle.mon_recorders.specs.Happenings.{Happening, Kind, Local, Global, Ancillary, record_of}
 use Rattle.mon_machine.specs.declared.mode.Mode.{Mode}
-use Rattle.mon_machine.specs.Step.{State, Step, step, goes}
+use Rattle.mon_machine.specs.Step.{State, step, goes}
 
 -- the state after n steps; one that does not go on stands still
 unfoldable pub after_steps : Parts → State → ℕ → State

@@ -1,0 +1,163 @@
+-- What is heard of a step.
+use Rattle.std.proofs.Common.{◌≡◌, ◌≢◌, ℕ, zero, suc, ◌+◌, ◌^◌, ◌<◌, ◌==◌, Bool, true, false, ◌&&◌, List, [], ◌∷◌, ◌++◌, length, take, refl, sym, ap, subst, ◌∙◌, arith, add-one, append_assoc}
+use Rattle.std.specs.Prelude.{if◌then◌else◌, Some, slice_get}
+use Rattle.std.specs.List.{AllByRecursion}
+use Rattle.std.specs.Int.{bit_at}
+use Rattle.std.proofs.lemmas.Nat.Bits.{bit_at-pow_same, bit_at-pow_other, bit_at_ones}
+use Rattle.std.proofs.lemmas.Bool.Decides.{nat_tests}
+use Rattle.mon_events.specs.declared.event.Slot.{Slot}
+use Rattle.mon_events.specs.Events.{place}
+use Rattle.mon_code.specs.declared.program.Code.{Code}
+use Rattle.mon_code.specs.declared.program.Location.{Location}
+use Rattle.mon_code.specs.Programs.{Parts}
+use Rattle.mon_words.specs.Words.{is_bit, is_enabled}
+use Rattle.mon_words.specs.History.{after, cell_at}
+use Rattle.mon_words.specs.declared.history.Board.{Board}
+use Rattle.mon_recorders.specs.declared.record.Record.{Record}
+use Rattle.mon_recorders.specs.Happenings.{Happening, Kind, Local, Global, Ancillary, record_of}
+use Rattle.mon_machine.specs.Step.{State, step, goes}
+use Rattle.mon_machine.proofs.Runs.{stands_still, nothing_happens}
+use Rattle.mon_machine.specs.Run.{after_steps, steps_done, is_heard, records_for, heard_one, heard, records_of}
+use Rattle.mon_machine.specs.Serial.{wants_line, line_records, WantsLine, HasLineWants}
+use Rattle.mon_machine.specs.Laws.{AtMarked, MarksLine, is_line_kind}
+
+pub records_for_none : (hears : ℕ → Bool) (record_for : ℕ → Record) → records_for hears record_for 0 ≡ []
+unfolding records_for
+records_for_none hears record_for = refl
+
+pub records_for_more : (hears : ℕ → Bool) (record_for : ℕ → Record) (n : ℕ) → records_for hears record_for (n + 1) ≡ records_for hears record_for n ++ (if hears n then record_for n ∷ [] else [])
+unfolding records_for
+records_for_more hears record_for n = rw add-one refl
+
+-- only what the first n tools hear is read
+pub records_for_same : (a b : ℕ → Bool) (record_for : ℕ → Record) (n : ℕ) → ((t : ℕ) → t < n → a t ≡ b t) → records_for a record_for n ≡ records_for b record_for n
+unfolding records_for
+records_for_same a b record_for zero same = refl
+records_for_same a b record_for (suc n) same =
+    let e : records_for a record_for n ≡ records_for b record_for n = records_for_same a b record_for n (λ t h. same t (omega arith)) in
+    let f : a n ≡ b n = same n (omega arith) in
+    rw (e, f) refl
+
+pub heard_append : (hears : Kind → ℕ → Bool) (i : ℕ) (xs ys : List Happening) → heard hears i (xs ++ ys) ≡ heard hears i xs ++ heard hears i ys
+heard_append hears i [] ys = refl
+heard_append hears i (x ∷ xs) ys = ap (λ (r : List Record). heard_one hears i x ++ r) (heard_append hears i xs ys) ∙ sym (append_assoc (heard_one hears i x) (heard hears i xs) (heard hears i ys))
+
+-- two that agree on each event hear the same
+pub heard_same : (a b : Kind → ℕ → Bool) (i : ℕ) (hs : List Happening) → AllByRecursion (λ (h : Happening). (t : ℕ) → t < 6 → a h.kind t ≡ b h.kind t) hs → heard a i hs ≡ heard b i hs
+heard_same a b i [] same = refl
+heard_same a b i (h ∷ hs) same =
+    let e : heard_one a i h ≡ heard_one b i h = records_for_same (a h.kind) (b h.kind) (record_of i h) 6 same.0 in
+    let f : heard a i hs ≡ heard b i hs = heard_same a b i hs same.1 in
+    rw (e, f) refl
+
+bit_is : (n k r : ℕ) → bit_at n k ≡ r → is_bit n k ≡ (r == 1)
+bit_is n k r e = ap (λ (b : ℕ). b == 1) e
+
+both : (x y : Bool) → y ≡ true → (x && y) ≡ x
+both true y e = e
+both false y e = refl
+
+-- a bit of a power of two
+pow_bit : (tool t : ℕ) → is_bit (2 ^ tool) t ≡ (t == tool)
+pow_bit tool t = pick (t == tool) refl
+  where
+    pick : (v : Bool) → (t == tool) ≡ v → is_bit (2 ^ tool) t ≡ (t == tool)
+    pick true e = let h : t ≡ tool = grind (arith, nat_tests) in bit_is (2 ^ tool) t 1 (subst (λ (k : ℕ). bit_at (2 ^ tool) k ≡ 1) (sym h) (bit_at-pow_same tool)) ∙ sym e
+    pick false e = let h : t ≢ tool = grind (arith, nat_tests) in bit_is (2 ^ tool) t 0 (bit_at-pow_other tool t h) ∙ sym e
+
+-- at a marked location the tool's bit is the only one that is enabled for LINE
+enabled_marked : (b : Board) (tool number : ℕ) (l : Location) → WantsLine tool b number l → l.is_marked ≡ true → (t : ℕ) → t < 6 → is_enabled (cell_at b number) Slot.Line t ≡ (t == tool)
+enabled_marked b tool number l w m t h =
+    let want : (cell_at b number).want ≡ 2 ^ tool = w.want ∙ ap (λ (v : Bool). if v then 2 ^ tool else 0) m in
+    let at : place Slot.Line t ≡ t = omega arith in
+    let live : is_bit (cell_at b number).live t ≡ true = ap (λ (n : ℕ). is_bit n t) w.live ∙ bit_is 16777215 t 1 (bit_at_ones 24 t (omega arith)) in
+    ap (λ (k : ℕ). is_bit (cell_at b number).want k && is_bit (cell_at b number).live k) at
+    ∙ both (is_bit (cell_at b number).want t) (is_bit (cell_at b number).live t) live
+    ∙ ap (λ (n : ℕ). is_bit n t) want ∙ pow_bit tool t
+
+-- a board that wants LINE for the tool alone hears an event as the tool does
+heard_kind : (p : Parts) (tool : ℕ) (b : Board) (k : ℕ) (c : Code) (h : Happening) → HasLineWants p tool b → slice_get p.codes k ≡ Some c → MarksLine k c h → (t : ℕ) → t < 6 → is_heard b h.kind t ≡ wants_line tool h.kind t
+heard_kind p tool b k c h wants found marks t within = pick (is_line_kind h.kind) refl
+  where
+    other : (kind : Kind) → is_line_kind kind ≡ false → is_heard b kind t ≡ wants_line tool kind t
+    other (Local location slot) e = ap (λ (v : Bool). v && is_enabled (cell_at b location) slot t) e ∙ sym (ap (λ (v : Bool). v && t == tool) e)
+    other Global e = refl
+    other (Ancillary location) e = refl
+
+    at : AtMarked k c h → is_heard b h.kind t ≡ wants_line tool h.kind t
+    at m =
+        subst (λ (kind : Kind). is_heard b kind t ≡ wants_line tool kind t) (sym m.kind)
+        (enabled_marked b tool (c.first + m.index) m.location (wants.cells k m.index c m.location found m.stands) m.marked t within)
+
+    pick : (v : Bool) → is_line_kind h.kind ≡ v → is_heard b h.kind t ≡ wants_line tool h.kind t
+    pick true e = at (marks.marked (marks.alone e))
+    pick false e = other h.kind e
+
+pub heard_marked : (p : Parts) (tool : ℕ) (b : Board) (k : ℕ) (c : Code) (i : ℕ) (hs : List Happening) → HasLineWants p tool b → slice_get p.codes k ≡ Some c → AllByRecursion (MarksLine k c) hs → heard (is_heard b) i hs ≡ heard (wants_line tool) i hs
+heard_marked p tool b k c i hs wants found marks = heard_same (is_heard b) (wants_line tool) i hs (each hs marks)
+  where
+    each : (hs : List Happening) → AllByRecursion (MarksLine k c) hs → AllByRecursion (λ (h : Happening). (t : ℕ) → t < 6 → is_heard b h.kind t ≡ wants_line tool h.kind t) hs
+    each [] m = tt
+    each (h ∷ hs) m = (heard_kind p tool b k c h wants found m.0, each hs m.1)
+
+at_nothing : (b : Board) (at : ℕ) → after b (take at []) ≡ b
+at_nothing b zero = refl
+at_nothing b (suc at) = refl
+
+pub line_records_none : (p : Parts) (tool i : ℕ) (s : State) → line_records p tool i s 0 ≡ []
+unfolding line_records
+line_records_none p tool i s = refl
+
+pub line_records_more : (p : Parts) (tool i : ℕ) (s : State) (n : ℕ) → line_records p tool i s (n + 1) ≡ heard (wants_line tool) i (step p s).events ++ line_records p tool (i + 1) (step p s).after n
+unfolding line_records
+line_records_more p tool i s n = rw add-one refl
+
+-- of a whole run
+pub records_of_lines : (p : Parts) (tool : ℕ) (b : Board) (i : ℕ) (s : State) (positions : List ℕ)
+    → ((n i : ℕ) → heard (is_heard b) i (step p (after_steps p s n)).events ≡ heard (wants_line tool) i (step p (after_steps p s n)).events)
+    → records_of p b [] i s positions ≡ line_records p tool i s (length positions)
+unfolding records_of line_records after_steps
+records_of_lines p tool b i s [] each = refl
+records_of_lines p tool b i s (at ∷ positions) each =
+    let here : heard (is_heard (after b (take at []))) i (step p s).events ≡ heard (wants_line tool) i (step p s).events
+    = ap (λ (w : Board). heard (is_heard w) i (step p s).events) (at_nothing b at) ∙ each 0 i in
+    let rest : records_of p b [] (i + 1) (step p s).after positions ≡ line_records p tool (i + 1) (step p s).after (length positions)
+    = records_of_lines p tool b (i + 1) (step p s).after positions (λ n j. each (suc n) j) in
+    rw (here, rest) refl
+
+-- of some steps and then some more
+pub line_records_sum : (p : Parts) (tool i : ℕ) (s : State) (m n : ℕ) → line_records p tool i s (m + n) ≡ line_records p tool i s m ++ line_records p tool (i + m) (after_steps p s m) n
+unfolding line_records after_steps
+line_records_sum p tool i s zero n =
+    let e : 0 + n ≡ n = omega arith in
+    let f : i + 0 ≡ i = omega arith in
+    ap (λ (k : ℕ). line_records p tool i s k) e ∙ ap (λ (k : ℕ). line_records p tool k s n) (sym f)
+line_records_sum p tool i s (suc m) n =
+    let e : suc m + n ≡ suc (m + n) = omega arith in
+    let f : i + 1 + m ≡ i + suc m = omega arith in
+    let here = heard (wants_line tool) i (step p s).events in
+    ap (λ (k : ℕ). line_records p tool i s k) e
+    ∙ ap (λ (r : List Record). here ++ r) (line_records_sum p tool (i + 1) (step p s).after m n)
+    ∙ sym (append_assoc here (line_records p tool (i + 1) (step p s).after m) (line_records p tool (i + 1 + m) (after_steps p (step p s).after m) n))
+    ∙ ap (λ (k : ℕ). (here ++ line_records p tool (i + 1) (step p s).after m) ++ line_records p tool k (after_steps p (step p s).after m) n) f
+
+-- a thread that does not go on is not heard
+pub line_records_ended : (p : Parts) (tool i : ℕ) (s : State) (n : ℕ) → goes s.mode ≡ false → line_records p tool i s n ≡ []
+unfolding line_records
+line_records_ended p tool i s zero e = refl
+line_records_ended p tool i s (suc n) e =
+    let still : (step p s).after ≡ s = stands_still p s e in
+    let none : (step p s).events ≡ [] = nothing_happens p s e in
+    ap (λ (hs : List Happening). heard (wants_line tool) i hs ++ line_records p tool (i + 1) (step p s).after n) none
+    ∙ ap (λ (t : State). line_records p tool (i + 1) t n) still ∙ line_records_ended p tool (i + 1) s n e
+
+-- so the steps that it does are all that are heard
+pub line_records_done : (p : Parts) (tool i : ℕ) (s : State) (n : ℕ) → line_records p tool i s (steps_done p s n) ≡ line_records p tool i s n
+unfolding line_records steps_done
+line_records_done p tool i s zero = refl
+line_records_done p tool i s (suc n) = pick (goes s.mode) refl (line_records_done p tool (i + 1) (step p s).after n)
+  where
+    pick : (b : Bool) → goes s.mode ≡ b → line_records p tool (i + 1) (step p s).after (steps_done p (step p s).after n) ≡ line_records p tool (i + 1) (step p s).after n
+        → line_records p tool i s (if b then steps_done p (step p s).after n + 1 else 0) ≡ heard (wants_line tool) i (step p s).events ++ line_records p tool (i + 1) (step p s).after n
+    pick true e h = line_records_more p tool i s (steps_done p (step p s).after n) ∙ ap (λ (r : List Record). heard (wants_line tool) i (step p s).events ++ r) h
+    pick false e h = sym (line_records_ended p tool i s (suc n) e)

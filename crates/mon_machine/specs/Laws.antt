@@ -1,0 +1,68 @@
+-- The laws of the plain machine.
+use Rattle.std.specs.Prelude.{ℕ, ◌+◌, ◌≤◌, ◌≡◌, Bool, true, false, List, [], length, Some, slice_get}
+use Rattle.std.specs.List.{AllByRecursion}
+use Rattle.mon_values.specs.declared.value.Value.{Value}
+use Rattle.mon_events.specs.declared.event.Event.{Event}
+use Rattle.mon_events.specs.declared.event.Slot.{Slot}
+use Rattle.mon_code.specs.declared.program.Code.{Code}
+use Rattle.mon_code.specs.declared.program.Location.{Location}
+use Rattle.mon_code.specs.Programs.{Parts, location_at}
+use Rattle.mon_code.specs.Checked.{IsChecked}
+use Rattle.mon_words.specs.declared.history.Board.{Board}
+use Rattle.mon_recorders.specs.Happenings.{Happening, Kind, Local, Global, Ancillary}
+use Rattle.mon_machine.specs.declared.mode.Mode.{Mode}
+use Rattle.mon_machine.specs.Step.{State, step, goes, start}
+use Rattle.mon_machine.specs.Run.{after_steps, steps_done, Goes, is_line, is_heard, heard, records_of}
+use Rattle.mon_machine.specs.Serial.{wants_line, line_records, HasLineWants}
+
+-- a run goes on by one step; a thread that goes on before each of n steps does n of them; where it then does not go on,
+-- that is all that it ever does, and it stands still
+pub record IsRun (p : Parts) (s : State) (n : ℕ) : Type 0 where
+  pub one_more : after_steps p s (n + 1) ≡ (step p (after_steps p s n)).after
+  pub does : Goes p s n → steps_done p s n ≡ n
+  pub no_more : Goes p s n → goes (after_steps p s n).mode ≡ false → (later : ℕ) → n ≤ later → steps_done p s later ≡ n
+  pub still : goes (after_steps p s n).mode ≡ false → (later : ℕ) → n ≤ later → after_steps p s later ≡ after_steps p s n
+
+abbrev pub GoesOnByOne : Type 0
+GoesOnByOne = (p : Parts) (s : State) (n : ℕ) → IsRun p s n
+
+-- a code of a checked program is called with as many arguments as it has parameters
+pub record IsCall (p : Parts) (k : ℕ) (c : Code) (args : List Value) : Type 0 where
+  pub checked : IsChecked p
+  pub found : slice_get p.codes k ≡ Some c
+  pub count : length args ≡ c.parameters
+
+-- no operand, no local and no location is ever missing
+abbrev pub NeverStuck : Type 0
+NeverStuck = (p : Parts) (k : ℕ) (c : Code) (args : List Value) → IsCall p k c args → (n : ℕ) → ¬ ((after_steps p (start c k args) n).mode ≡ Mode.Stuck)
+
+-- what happens stands at a marked location of code k, and has the line of that location
+pub record AtMarked (k : ℕ) (c : Code) (h : Happening) : Type 0 where
+  pub index : ℕ
+  pub location : Location
+  pub stands : location_at c index ≡ Some location
+  pub marked : location.is_marked ≡ true
+  pub line : location.line ≡ Some h.at
+  pub kind : h.kind ≡ Local (c.first + index) Slot.Line
+  pub code : h.code ≡ k
+
+abbrev pub is_line_kind : Kind → Bool
+is_line_kind (Local location slot) = is_line slot
+is_line_kind Global = false
+is_line_kind (Ancillary location) = false
+
+-- LINE events, and no others, have the kind of one, and stand at marked locations
+pub record MarksLine (k : ℕ) (c : Code) (h : Happening) : Type 0 where
+  pub marked : h.event ≡ Event.Line → AtMarked k c h
+  pub alone : is_line_kind h.kind ≡ true → h.event ≡ Event.Line
+
+abbrev pub LineMarks : Type 0
+LineMarks = (p : Parts) (k : ℕ) (c : Code) (args : List Value) → IsCall p k c args → (n : ℕ) → AllByRecursion (MarksLine k c) (step p (after_steps p (start c k args) n)).events
+
+-- a tool that such a board enables for LINE alone hears of each step, and of a whole run, its LINE events and nothing else
+pub record HearsLines (p : Parts) (tool : ℕ) (b : Board) (s : State) : Type 0 where
+  pub each_step : (n i : ℕ) → let events = (step p (after_steps p s n)).events in heard (is_heard b) i events ≡ heard (wants_line tool) i events
+  pub whole_run : (i : ℕ) (positions : List ℕ) → records_of p b [] i s positions ≡ line_records p tool i s (length positions)
+
+abbrev pub HeardByWants : Type 0
+HeardByWants = (p : Parts) (k : ℕ) (c : Code) (args : List Value) → IsCall p k c args → (tool : ℕ) (b : Board) → HasLineWants p tool b → HearsLines p tool b (start c k args)

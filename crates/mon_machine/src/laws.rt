@@ -1,0 +1,22 @@
+ghost use Rattle.mon_machine.specs.Laws.{GoesOnByOne, HeardByWants, LineMarks, NeverStuck};
+
+/// A run goes on step by step, and a thread that does not go on stands still.
+pub fn goes_on_by_one()
+    ensures { GoesOnByOne }
+{}
+
+/// A thread that calls a code of a checked program with the right number of arguments never misses an operand, a local
+/// or a location.
+pub fn never_stuck()
+    ensures { NeverStuck }
+{}
+
+/// LINE events occur at marked locations alone.
+pub fn line_marks()
+    ensures { LineMarks }
+{}
+
+/// Where LINE is enabled for one tool at the marked locations alone, that tool hears every LINE event.
+pub fn heard_by_wants()
+    ensures { HeardByWants }
+{}
