@@ -15,6 +15,9 @@ cell_at b l = slice_index_or b.cells l no_cell
 abbrev pub clear_at : Board → ℕ → ℕ → Board
 clear_at b l k = record b { cells = slice_set b.cells l (clear (cell_at b l) k) }
 
+abbrev pub base_in : Cell → ℕ
+base_in c = c.base
+
 -- what stands after these marks: the last board, without the live bits that the disables behind it name
 abbrev pub after : Board → List Mark → Board
 after b [] = b

@@ -29,6 +29,13 @@ pub record Loads (a : Told) (location word : ℕ) (b : Told) : Type 0 where
   -- base opcodes never change
   pub base : (cell_of word).base ≡ (cell_at a.first location).base
 
+-- some loads: more may have been seen, in which nothing was added but disables of others, and nothing else has changed
+pub record Sees (a b : Told) : Type 0 where
+  pub begins : Begins a.seen b.seen
+  pub quiet : puts b.seen ≡ puts a.seen
+  pub own : offs a.number a.seen ≡ a.own → offs a.number b.seen ≡ a.own
+  pub rest : b ≡ record a { seen = b.seen }
+
 -- words that nobody else changes
 abbrev pub plain_board : List ℕ → Board
 plain_board words = record { global = 0; callbacks = []; cells = map cell_of words }
