@@ -1,0 +1,6 @@
+pub mod Records
+pub mod Heard
+pub mod Answered
+pub mod Results
+pub mod Steps
+pub mod Runs

@@ -1,0 +1,78 @@
+//! What tools hear of a step.
+
+ghost use Rattle.std.specs.Prelude.{◌≡◌, ◌++◌, OnOk, ℕ};
+ghost use Rattle.mon_events.specs.declared.event.Slot.TheVariants as slot;
+ghost use Rattle.mon_words.specs.Words.{cell_of, is_enabled};
+ghost use Rattle.mon_machine.specs.Step.{line_events, line_after};
+ghost use Rattle.mon_machine.specs.Run.{records_for, heard};
+ghost use Rattle.mon_interp.specs.Heard.{cell_hears, line_record};
+
+use mon_events::{Event, Slot};
+use mon_frames::Frame;
+use mon_recorders::{Cut, Record};
+use mon_words::enabled;
+use sqlite_items::Items;
+use std::alloc::{AllocError, Global};
+
+// Records the line for each tool for which the word enables LINE, in ascending order.
+#[tactic(auto, using(std::proofs::lemmas::Grind::common_steps, crate::proofs::Records::records_for_none, crate::proofs::Records::records_for_more))]
+fn hear(
+    alloc: Global,
+    records: &mut Items<Record>,
+    word: u64,
+    step: u64,
+    code: u16,
+    line: u32,
+) -> Result<(), AllocError>
+    ensures { OnOk result (records.new ≡ records.old ++ records_for (is_enabled (cell_of word) slot.Line) (line_record step code line) 6) }
+{
+    for tool in 0..6u8 {
+        if enabled(word, Slot::Line, tool) {
+            records.push(Record {
+                step,
+                tool,
+                event: Event::Line,
+                code,
+                at: line,
+                dest: 0,
+                first: Cut::absent(alloc),
+                second: Cut::absent(alloc),
+            })?;
+        }
+    }
+    Ok(())
+}
+
+/// Records the line of a location, where it differs from the frame's last one.
+pub fn hear_line(
+    alloc: Global,
+    records: &mut Items<Record>,
+    word: u64,
+    step: u64,
+    frame: &Frame,
+    line: Option<u32>,
+) -> Result<(), AllocError>
+    ensures { OnOk result ((location : ℕ) → records.new ≡ records.old ++ heard (cell_hears (cell_of word)) step (line_events frame.now location line frame.now.line)) }
+{
+    match (line, frame.line) {
+        (None, _) => Ok(()),
+        (Some(line), None) => hear(alloc, records, word, step, frame.code, line),
+        (Some(line), Some(last)) => {
+            if line == last {
+                Ok(())
+            } else {
+                hear(alloc, records, word, step, frame.code, line)
+            }
+        }
+    }
+}
+
+/// The line of the last executed instruction that has one.
+pub fn later_line(line: Option<u32>, last: Option<u32>) -> Option<u32>
+    ensures { result ≡ line_after line last }
+{
+    match line {
+        None => last,
+        Some(line) => Some(line),
+    }
+}

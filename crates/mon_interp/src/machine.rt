@@ -1,0 +1,220 @@
+//! The interpreter's steps.
+
+ghost use Rattle.std.specs.Prelude.{◌≡◌};
+ghost use Rattle.mon_machine.specs.Run as run;
+
+use crate::execute::execute;
+use crate::hear::{hear_line, later_line};
+use mon_code::{Code, Location, Program};
+use mon_events::{Op, op_of_number};
+use mon_frames::Frame;
+use mon_machine::Mode;
+use mon_recorders::{Outcome, Record, ThreadReport};
+use mon_words::{Handle, unpack};
+use sqlite_items::Items;
+use std::alloc::{AllocError, Global};
+use std::mem;
+
+/// A thread's frame and mode, and what it has recorded.
+#[derive(Drop)]
+pub struct Machine {
+    pub alloc: Global,
+    pub frame: Frame,
+    pub mode: Mode,
+    pub records: Items<Record>,
+    pub steps: u64,
+}
+
+// Puts a value in the place of another.
+fn put<T: Drop>(place: &mut T, value: T)
+    ensures { place.new ≡ value }
+{
+    *place = value;
+}
+
+impl Machine {
+    ghost use Rattle.std.specs.Prelude.{◌≡◌, ◌+◌, ◌<◌, ◌≤◌, ◌^◌, length, map, true, ℕ, Bool, IsTrue, OnOk, IfOk, []};
+    ghost use Rattle.mon_words.specs.Words.{cell_of};
+    ghost use Rattle.mon_words.specs.History.{after, cell_at, base_in};
+    ghost use Rattle.mon_words.specs.Told.{Told, Sees};
+    ghost use Rattle.mon_code.specs.Programs.{Parts};
+    ghost use Rattle.mon_machine.specs.Step.{step, executed, stuck, goes};
+    ghost use Rattle.mon_machine.specs.Run.{is_heard, Ran, outcome_of};
+    ghost use Rattle.mon_machine.specs.declared.mode.Mode.TheVariants.{Run, Unwind, Ended};
+    ghost use Rattle.mon_recorders.specs.declared.report.Outcome.TheVariants.{Raised};
+    ghost use Rattle.mon_recorders.specs.Happenings.{Kind};
+    ghost use Rattle.mon_interp.specs.Heard.{cell_hears};
+    ghost use Rattle.mon_interp.specs.Machines.{progress_of, state_of, Stepped};
+
+    /// Whether it goes on.
+    pub fn goes(&self) -> bool
+        ensures { result ≡ goes self.now.mode }
+    {
+        matches!(self.mode, Mode::Run | Mode::Unwind(_))
+    }
+
+    /// One instruction, at a location with this word.
+    #[tactic(auto, using(std::proofs::lemmas::Grind::common_steps, crate::proofs::Heard::heard_executed))]
+    fn step_at(
+        &mut self,
+        code: &Code,
+        word: u64,
+        op: Op,
+        location: Location,
+    ) -> Result<(), AllocError>
+        requires inside { self.old.frame.index < 65536 }
+        requires counted { self.old.steps < 2 ^ 63 }
+        ensures step { OnOk result ((p : Parts) → Stepped (executed p code.now op location self.old.frame) (cell_hears (cell_of word)) (progress_of self.old) (progress_of self.new)) }
+        ensures counted { (self.old.steps ≤ self.new.steps) × (self.new.steps ≤ self.old.steps + 1) }
+    {
+        hear_line(
+            self.alloc,
+            &mut self.records,
+            word,
+            self.steps,
+            &self.frame,
+            location.line,
+        )?;
+        self.frame.line = later_line(location.line, self.frame.line);
+        let mode = execute(self.alloc, &mut self.frame, code, op, location.argument)?;
+        put(&mut self.mode, mode);
+        self.steps += 1;
+        Ok(())
+    }
+
+    fn get_stuck(&mut self)
+        requires { self.old.steps < 2 ^ 63 }
+        ensures step { (hears : Kind → ℕ → Bool) → Stepped (stuck self.old.frame) hears (progress_of self.old) (progress_of self.new) }
+        ensures steps { self.new.steps ≡ self.old.steps + 1 }
+    {
+        put(&mut self.mode, Mode::Stuck);
+        self.steps += 1;
+    }
+
+    /// One instruction, whatever stands at its location.
+    fn run_step<H: Handle>(
+        &mut self,
+        program: &Program,
+        handle: &mut H,
+    ) -> Result<(), AllocError>
+        requires attached { IsTrue (H.told handle.old).attached }
+        requires bases { map base_in (H.told handle.old).first.cells ≡ program.now.bases }
+        requires counted { self.old.steps < 2 ^ 63 }
+        requires runs { self.old.mode ≡ Run }
+        ensures step { OnOk result (Stepped (step program.now (state_of self.old)) (is_heard (after (H.told handle.old).first (H.told handle.new).seen)) (progress_of self.old) (progress_of self.new)) }
+        ensures counted { (self.old.steps ≤ self.new.steps) × (self.new.steps ≤ self.old.steps + 1) }
+        ensures sees { Sees (H.told handle.old) (H.told handle.new) }
+        ensures rest { H.rest handle.new ≡ H.rest handle.old }
+    {
+        let at = self.frame.index;
+        match program.code(self.frame.code) {
+            None => {
+                self.get_stuck();
+                Ok(())
+            }
+            Some(code) => match code.locations.get(at as usize) {
+                None => {
+                    self.get_stuck();
+                    Ok(())
+                }
+                Some(location) => {
+                    let word = handle.load(code.first + at);
+                    match op_of_number(unpack(word).base) {
+                        None => {
+                            self.get_stuck();
+                            Ok(())
+                        }
+                        Some(op) => self.step_at(code, word, op, *location),
+                    }
+                }
+            },
+        }
+    }
+
+    /// One step, in a mode that goes on.
+    fn one_step<H: Handle>(
+        &mut self,
+        program: &Program,
+        handle: &mut H,
+    ) -> Result<(), AllocError>
+        requires attached { IsTrue (H.told handle.old).attached }
+        requires bases { map base_in (H.told handle.old).first.cells ≡ program.now.bases }
+        requires counted { self.old.steps < 2 ^ 63 }
+        requires goes { goes self.old.mode ≡ true }
+        ensures step { OnOk result (Stepped (step program.now (state_of self.old)) (is_heard (after (H.told handle.old).first (H.told handle.new).seen)) (progress_of self.old) (progress_of self.new)) }
+        ensures counted { (self.old.steps ≤ self.new.steps) × (self.new.steps ≤ self.old.steps + 1) }
+        ensures sees { Sees (H.told handle.old) (H.told handle.new) }
+        ensures rest { H.rest handle.new ≡ H.rest handle.old }
+    {
+        let mode = mem::replace(&mut self.mode, Mode::Run);
+        match mode {
+            Mode::Run => self.run_step(program, handle),
+            Mode::Unwind(exc) => {
+                put(&mut self.mode, Mode::Ended(Outcome::Raised(exc)));
+                self.steps += 1;
+                Ok(())
+            }
+            Mode::Ended(_) | Mode::Stuck => unreachable!(),
+        }
+    }
+
+    /// At most `steps` steps; whether it goes on after them.
+    pub fn advance<H: Handle>(
+        &mut self,
+        program: &Program,
+        handle: &mut H,
+        steps: u64,
+    ) -> Result<bool, AllocError>
+        requires attached { IsTrue (H.told handle.old).attached }
+        requires bases { map base_in (H.told handle.old).first.cells ≡ program.now.bases }
+        requires counted { self.old.steps + steps ≤ 200000 }
+        ensures run { OnOk result (Ran program.now (H.told handle.old).first (H.told handle.old).seen (H.told handle.new).seen (progress_of self.old) (progress_of self.new)) }
+        ensures goes { IfOk result (λ on. on ≡ goes self.new.mode) }
+        ensures spent { IfOk result (λ on. IsTrue on → self.new.steps ≡ self.old.steps + steps) }
+        ensures counted { (self.old.steps ≤ self.new.steps) × (self.new.steps ≤ self.old.steps + steps) }
+        ensures sees { Sees (H.told handle.old) (H.told handle.new) }
+        ensures rest { H.rest handle.new ≡ H.rest handle.old }
+    {
+        for _turn in 0..steps {
+            if !self.goes() {
+                return Ok(false);
+            }
+            self.one_step(program, handle)?;
+        }
+        Ok(self.goes())
+    }
+
+    /// What is reported of the thread.
+    pub fn report(self) -> ThreadReport
+        ensures records { result.records ≡ self.records }
+        ensures steps { result.steps ≡ self.steps }
+        ensures outcome { result.outcome ≡ outcome_of self.mode }
+        ensures printed { result.printed ≡ [] }
+        ensures disables { result.disables ≡ [] }
+    {
+        let Machine {
+            alloc,
+            frame: _,
+            mode,
+            records,
+            steps,
+        } = self;
+        ThreadReport {
+            printed: Items::new(alloc),
+            records,
+            disables: Items::new(alloc),
+            steps,
+            outcome: outcome_of(mode),
+        }
+    }
+}
+
+// How a thread in this mode has ended.
+fn outcome_of(mode: Mode) -> Outcome
+    ensures { result ≡ run.outcome_of mode }
+{
+    match mode {
+        Mode::Ended(outcome) => outcome,
+        Mode::Run | Mode::Unwind(_) | Mode::Stuck => Outcome::Limit,
+    }
+}

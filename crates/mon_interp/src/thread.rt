@@ -1,0 +1,238 @@
+ghost use Rattle.std.specs.Prelude.{◌≡◌, ◌≤◌, ◌-◌, ◌++◌, length, map, take, replicate, Some, None, OnOk, IfOk};
+ghost use Rattle.mon_interp.specs.declared.thread.AdvanceFault.TheVariants as advance_fault;
+ghost use Rattle.mon_interp.specs.declared.thread.EntryFault.TheVariants as entry_fault;
+ghost use Rattle.mon_values.specs.declared.value.Value.{Int};
+
+use crate::machine::Machine;
+use mon_code::{Code, Program};
+use mon_frames::{Frame, Locals, Operands};
+use mon_machine::Mode;
+use mon_recorders::ThreadReport;
+use mon_values::value::Value;
+use mon_words::Handle;
+use sqlite_items::Items;
+use std::alloc::{AllocError, Global};
+use std::marker::Model;
+use thiserror::Error;
+
+/// Why a thread was not made.
+#[derive(Clone, Copy, Debug, PartialEq, Eq, Error)]
+pub enum EntryFault {
+    /// No `def` has the name.
+    #[error("no function has this name")]
+    NoFunction,
+    /// The function has so many parameters, and another count of arguments was given.
+    #[error("the function takes {0} arguments")]
+    WrongCount(u16),
+    #[error("out of memory")]
+    Memory,
+}
+
+impl From<AllocError> for EntryFault {
+    ghost from_gives = { λ _ e. e ≡ entry_fault.Memory };
+
+    fn from(_: AllocError) -> EntryFault {
+        EntryFault::Memory
+    }
+}
+
+/// Why a thread did not advance.
+#[derive(Clone, Copy, Debug, PartialEq, Eq, Error)]
+pub enum AdvanceFault {
+    #[error("out of memory")]
+    Memory,
+}
+
+impl From<AllocError> for AdvanceFault {
+    ghost from_gives = { λ _ e. e ≡ advance_fault.Memory };
+
+    fn from(_: AllocError) -> AdvanceFault {
+        AdvanceFault::Memory
+    }
+}
+
+/// Where an advance stopped.
+#[derive(Clone, Copy, Debug, PartialEq, Eq)]
+pub enum Stop {
+    /// All steps were done, and the thread has not ended.
+    Spent,
+    /// The thread has ended.
+    Ended,
+}
+
+/// A thread of the interpreter. Contracts see where the plain machine stands, the records, the number of steps, and
+/// whether memory was short.
+#[derive(Drop)]
+pub struct Thread {
+    machine: Machine,
+    failed: bool,
+}
+
+impl Model for Thread {
+    ghost use Rattle.std.specs.Prelude.{ℕ, List, Bool, refl};
+    ghost use Rattle.std.specs.Coded.{code_by, coded×, coded_list, coded_ℕ, coded_bool};
+    ghost use Rattle.mon_frames.specs.declared.frame.Frame.{Frame as FrameOf};
+    ghost use Rattle.mon_frames.specs.contracts.frame.Frame as frame;
+    ghost use Rattle.mon_machine.specs.declared.mode.Mode.{Mode as ModeOf};
+    ghost use Rattle.mon_machine.specs.contracts.mode.Mode as mode;
+    ghost use Rattle.mon_recorders.specs.declared.record.Record.{Record as RecordOf};
+    ghost use Rattle.mon_recorders.specs.contracts.record.Record as a_record;
+    ghost use Rattle.mon_interp.specs.Machines.{progress_of};
+    ghost use Rattle.mon_interp.specs.Threads.{ThreadView};
+
+    ghost Value = { ThreadView };
+
+    ghost coded = { code_by ((FrameOf × ModeOf) × (List RecordOf × (ℕ × Bool))) (coded× (coded× frame.the_row.coded mode.the_row.coded) (coded× (coded_list a_record.the_row.coded) (coded× coded_ℕ coded_bool))) (λ t. ((t.progress.state.frame, t.progress.state.mode), (t.progress.records, (t.progress.steps, t.failed)))) (λ p. record { progress = record { state = record { frame = p.0.0; mode = p.0.1 }; records = p.1.0; steps = p.1.1.0 }; failed = p.1.1.1 }) (λ _. refl) };
+
+    ghost view = { λ t. record { progress = progress_of t.machine; failed = t.failed } };
+}
+
+// The locals of a call: the arguments, and the others unbound.
+fn locals_of(alloc: Global, count: usize, args: &[i64]) -> Result<Locals, AllocError>
+    requires { length args.now ≤ count }
+    ensures { IfOk result (λ locals. locals ≡ map Some (map Int args.now) ++ replicate (count - length args.now) None) }
+{
+    let mut locals = Locals::new(alloc);
+    push_bound(&mut locals, args)?;
+    push_unbound(&mut locals, count - args.len())?;
+    Ok(locals)
+}
+
+fn push_bound(locals: &mut Locals, args: &[i64]) -> Result<(), AllocError>
+    ensures { OnOk result (locals.new ≡ locals.old ++ map Some (map Int args.now)) }
+{
+    for arg in args {
+        locals.push(Some(Value::Int(*arg)))?;
+    }
+    Ok(())
+}
+
+fn push_unbound(locals: &mut Locals, count: usize) -> Result<(), AllocError>
+    ensures { OnOk result (locals.new ≡ locals.old ++ replicate count None) }
+{
+    for _k in 0..count {
+        locals.push(None)?;
+    }
+    Ok(())
+}
+
+impl Thread {
+    ghost use Rattle.std.specs.Prelude.{◌≡◌, ◌+◌, ◌≤◌, length, map, true, false, not, IsTrue, OnOk, OnErr, IfOk, Ok, Err, []};
+    ghost use Rattle.mon_values.specs.declared.value.Value.{Int};
+    ghost use Rattle.mon_words.specs.History.{base_in};
+    ghost use Rattle.mon_words.specs.Told.{Sees};
+    ghost use Rattle.mon_machine.specs.Step.{goes};
+    ghost use Rattle.mon_machine.specs.Run.{Ran, outcome_of};
+    ghost use Rattle.mon_interp.specs.Threads.{beginning, entry_due, AnswersEntry};
+
+    /// A thread that calls a code, which has this number in its program, with these arguments.
+    pub fn begin(alloc: Global, code: &Code, number: u16, args: &[i64]) -> Result<Thread, AllocError>
+        requires { length args.now ≤ length code.now.locals }
+        ensures { IfOk result (λ t. t ≡ beginning code.now number (map Int args.now)) }
+    {
+        let locals = locals_of(alloc, code.locals.len(), args)?;
+        let frame = Frame {
+            code: number,
+            index: 0,
+            locals,
+            stack: Operands::new(alloc),
+            line: None,
+        };
+        let machine = Machine {
+            alloc,
+            frame,
+            mode: Mode::Run,
+            records: Items::new(alloc),
+            steps: 0,
+        };
+        Ok(Thread {
+            machine,
+            failed: false,
+        })
+    }
+
+    /// A thread that calls the function of this name with these arguments.
+    pub fn new(
+        alloc: Global,
+        program: &Program,
+        entry: &str,
+        args: &[i64],
+    ) -> Result<Thread, EntryFault>
+        ensures { AnswersEntry result (entry_due program.now entry.now args.now) }
+    {
+        let Some(number) = program.code_named(entry) else {
+            return Err(EntryFault::NoFunction);
+        };
+        let Some(code) = program.code(number) else {
+            return Err(EntryFault::NoFunction);
+        };
+        if args.len() != code.parameters as usize {
+            return Err(EntryFault::WrongCount(code.parameters));
+        }
+        Ok(Thread::begin(alloc, code, number, args)?)
+    }
+
+    /// Does at most `steps` steps over the handle's words. After want of memory every later call answers it too.
+    pub fn advance<H: Handle>(
+        &mut self,
+        program: &Program,
+        handle: &mut H,
+        steps: u64,
+    ) -> Result<Stop, AdvanceFault>
+        requires attached { IsTrue (H.told handle.old).attached }
+        requires bases { map base_in (H.told handle.old).first.cells ≡ program.now.bases }
+        requires counted { self.old.progress.steps + steps ≤ 200000 }
+
+        // the plain machine's steps, each read at its position in the history
+        ensures run { OnOk result (Ran program.now (H.told handle.old).first (H.told handle.old).seen (H.told handle.new).seen self.old.progress self.new.progress) }
+
+        ensures spent { result ≡ Ok Stop.Spent → (goes self.new.progress.state.mode ≡ true) × (self.new.progress.steps ≡ self.old.progress.steps + steps) }
+        ensures ended { result ≡ Ok Stop.Ended → goes self.new.progress.state.mode ≡ false }
+
+        // want of memory
+        ensures before { IsTrue self.old.failed → result ≡ Err AdvanceFault.Memory }
+        ensures memory { OnErr result (self.new.failed ≡ true) }
+        ensures counted { (self.old.progress.steps ≤ self.new.progress.steps) × (self.new.progress.steps ≤ self.old.progress.steps + steps) }
+
+        // the handle: more may have been seen, in which no disable is this thread's
+        ensures sees { Sees (H.told handle.old) (H.told handle.new) }
+        ensures rest { H.rest handle.new ≡ H.rest handle.old }
+    {
+        if self.failed {
+            return Err(AdvanceFault::Memory);
+        }
+        match self.machine.advance(program, handle, steps) {
+            Ok(true) => Ok(Stop::Spent),
+            Ok(false) => Ok(Stop::Ended),
+            Err(_) => {
+                self.failed = true;
+                Err(AdvanceFault::Memory)
+            }
+        }
+    }
+
+    /// The number of steps that were done.
+    pub fn steps(&self) -> u64
+        ensures { result ≡ self.now.progress.steps }
+    {
+        self.machine.steps
+    }
+
+    /// Whether the thread has ended.
+    pub fn ended(&self) -> bool
+        ensures { result ≡ not (goes self.now.progress.state.mode) }
+    {
+        !self.machine.goes()
+    }
+
+    /// What is reported of the thread.
+    pub fn finish(self) -> ThreadReport
+        ensures records { result.records ≡ self.progress.records }
+        ensures steps { result.steps ≡ self.progress.steps }
+        ensures outcome { result.outcome ≡ outcome_of self.progress.state.mode }
+        ensures printed { result.printed ≡ [] }
+        ensures disables { result.disables ≡ [] }
+    {
+        self.machine.report()
+    }
+}
