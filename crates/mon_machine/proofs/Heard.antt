@@ -1,6 +1,6 @@
 -- What is heard of a step.
-use Rattle.std.proofs.Common.{◌≡◌, ◌≢◌, ℕ, zero, suc, ◌+◌, ◌^◌, ◌<◌, ◌==◌, Bool, true, false, ◌&&◌, List, [], ◌∷◌, ◌++◌, length, take, refl, sym, ap, subst, ◌∙◌, arith, add-one, append_assoc}
-use Rattle.std.specs.Prelude.{if◌then◌else◌, Some, slice_get}
+use Rattle.std.proofs.Common.{◌≡◌, ◌≢◌, ℕ, zero, suc, ◌+◌, ◌*◌, ◌^◌, ◌<◌, ◌==◌, Bool, true, false, ◌&&◌, List, [], ◌∷◌, ◌++◌, length, take, refl, sym, ap, subst, ◌∙◌, arith, add-one, append_assoc, append-nil}
+use Rattle.std.specs.Prelude.{if◌then◌else◌, Option, Some, None, slice_get}
 use Rattle.std.specs.List.{AllByRecursion}
 use Rattle.std.specs.Int.{bit_at}
 use Rattle.std.proofs.lemmas.Nat.Bits.{bit_at-pow_same, bit_at-pow_other, bit_at_ones}
@@ -15,7 +15,13 @@ use Rattle.mon_words.specs.History.{after, cell_at}
 use Rattle.mon_words.specs.declared.history.Board.{Board}
 use Rattle.mon_recorders.specs.declared.record.Record.{Record}
 use Rattle.mon_recorders.specs.Happenings.{Happening, Kind, Local, Global, Ancillary, record_of}
-use Rattle.mon_machine.specs.Step.{State, step, goes}
+use Rattle.mon_values.specs.declared.value.Exc.{Exc}
+use Rattle.mon_events.specs.declared.event.Event.{Event}
+use Rattle.mon_events.specs.declared.op.Op.{Op}
+use Rattle.mon_events.specs.Ops.{main_event}
+use Rattle.mon_frames.specs.declared.frame.Frame.{Frame}
+use Rattle.mon_machine.specs.declared.mode.Mode.{Mode}
+use Rattle.mon_machine.specs.Step.{State, step, goes, executed, effect, line_after, line_events, happens, main_events, raise_events, unwound}
 use Rattle.mon_machine.proofs.Runs.{stands_still, nothing_happens}
 use Rattle.mon_machine.specs.Run.{after_steps, steps_done, is_heard, records_for, heard_one, heard, records_of}
 use Rattle.mon_machine.specs.Serial.{wants_line, line_records, WantsLine, HasLineWants}
@@ -49,6 +55,11 @@ heard_same a b i (h ∷ hs) same =
     let e : heard_one a i h ≡ heard_one b i h = records_for_same (a h.kind) (b h.kind) (record_of i h) 6 same.0 in
     let f : heard a i hs ≡ heard b i hs = heard_same a b i hs same.1 in
     rw (e, f) refl
+
+-- two lists
+pub all_append : {X : Type 0} (P : X → Type 0) (xs ys : List X) → AllByRecursion P xs → AllByRecursion P ys → AllByRecursion P (xs ++ ys)
+all_append P [] ys a b = b
+all_append P (x ∷ xs) ys a b = (a.0, all_append P xs ys a.1 b)
 
 bit_is : (n k r : ℕ) → bit_at n k ≡ r → is_bit n k ≡ (r == 1)
 bit_is n k r e = ap (λ (b : ℕ). b == 1) e
@@ -161,3 +172,87 @@ line_records_done p tool i s (suc n) = pick (goes s.mode) refl (line_records_don
         → line_records p tool i s (if b then steps_done p (step p s).after n + 1 else 0) ≡ heard (wants_line tool) i (step p s).events ++ line_records p tool (i + 1) (step p s).after n
     pick true e h = line_records_more p tool i s (steps_done p (step p s).after n) ∙ ap (λ (r : List Record). heard (wants_line tool) i (step p s).events ++ r) h
     pick false e h = sym (line_records_ended p tool i s (suc n) e)
+
+-- nothing is heard but events of the kind of LINE
+pub record LineAlone (hears : Kind → ℕ → Bool) : Type 0 where
+  pub others : (kind : Kind) (t : ℕ) → is_line_kind kind ≡ false → hears kind t ≡ false
+
+pub is_heard-line_alone : (b : Board) → LineAlone (is_heard b)
+is_heard-line_alone b = record { others = others }
+  where
+    others : (kind : Kind) (t : ℕ) → is_line_kind kind ≡ false → is_heard b kind t ≡ false
+    others (Local location slot) t e = ap (λ (v : Bool). v && is_enabled (cell_at b location) slot t) e
+    others Global t e = refl
+    others (Ancillary location) t e = refl
+
+pub wants_line-line_alone : (tool : ℕ) → LineAlone (wants_line tool)
+wants_line-line_alone tool = record { others = others }
+  where
+    others : (kind : Kind) (t : ℕ) → is_line_kind kind ≡ false → wants_line tool kind t ≡ false
+    others (Local location slot) t e = ap (λ (v : Bool). v && t == tool) e
+    others Global t e = refl
+    others (Ancillary location) t e = refl
+
+records_for_silent : (hears : ℕ → Bool) (record_for : ℕ → Record) (n : ℕ) → ((t : ℕ) → hears t ≡ false) → records_for hears record_for n ≡ []
+unfolding records_for
+records_for_silent hears record_for zero silent = refl
+records_for_silent hears record_for (suc n) silent = rw (silent n, records_for_silent hears record_for n silent) refl
+
+IsOtherKind : Happening → Type 0
+IsOtherKind h = is_line_kind h.kind ≡ false
+
+unheard : (hears : Kind → ℕ → Bool) (i : ℕ) (hs : List Happening) → LineAlone hears → AllByRecursion IsOtherKind hs → heard hears i hs ≡ []
+unfolding IsOtherKind
+unheard hears i [] alone others = refl
+unheard hears i (h ∷ hs) alone others =
+    let here : heard_one hears i h ≡ [] = records_for_silent (hears h.kind) (record_of i h) 6 (λ t. alone.others h.kind t others.0) in
+    rw (here, unheard hears i hs alone others.1) refl
+
+main_other : (p : Parts) (op : Op) (event : Option Event) (location : ℕ) (f : Frame) (next : State) → AllByRecursion IsOtherKind (main_events p op event location f next)
+unfolding IsOtherKind
+main_other p op None location f next = tt
+main_other p Op.Resume (Some event) location f next = (refl, tt)
+main_other p Op.LoadConst (Some event) location f next = (refl, tt)
+main_other p Op.LoadFast (Some event) location f next = (refl, tt)
+main_other p Op.StoreFast (Some event) location f next = (refl, tt)
+main_other p Op.BinaryOp (Some event) location f next = (refl, tt)
+main_other p Op.CompareOp (Some event) location f next = (refl, tt)
+main_other p Op.JumpBackward (Some event) location f next = (refl, tt)
+main_other p Op.PopJumpIfFalse (Some event) location f next = (refl, tt)
+main_other p Op.ReturnValue (Some event) location f next = (refl, tt)
+
+raise_other : (p : Parts) (f : Frame) (mode : Mode) → AllByRecursion IsOtherKind (raise_events p f mode)
+unfolding IsOtherKind
+raise_other p f Mode.Run = tt
+raise_other p f (Mode.Unwind e) = (refl, tt)
+raise_other p f (Mode.Ended outcome) = tt
+raise_other p f Mode.Stuck = tt
+
+-- of an instruction nothing is heard but its LINE events
+pub heard_executed : (hears : Kind → ℕ → Bool) (i : ℕ) (p : Parts) (c : Code) (op : Op) (l : Location) (f : Frame) → LineAlone hears → heard hears i (executed p c op l f).events ≡ heard hears i (line_events f (c.first + f.index) l.line f.line)
+unfolding IsOtherKind
+heard_executed hears i p c op l f alone =
+    let next = effect c op l.argument (record f { line = line_after l.line f.line }) in
+    let lines = line_events f (c.first + f.index) l.line f.line in
+    let instruction = happens Event.Instruction (Local (c.first + f.index) Slot.Instruction) f (2 * f.index) in
+    let main = main_events p op (main_event op l.argument) (c.first + f.index) f next in
+    let raised = raise_events p f next.mode in
+    let none : heard hears i (instruction ∷ (main ++ raised)) ≡ []
+    = unheard hears i (instruction ∷ (main ++ raised)) alone (refl, all_append IsOtherKind main raised (main_other p op (main_event op l.argument) (c.first + f.index) f next) (raise_other p f next.mode)) in
+    heard_append hears i lines (instruction ∷ (main ++ raised)) ∙ ap (λ (r : List Record). heard hears i lines ++ r) none ∙ append-nil (heard hears i lines)
+
+-- nor of an exception that leaves the frame
+pub heard_unwound : (hears : Kind → ℕ → Bool) (i : ℕ) (p : Parts) (f : Frame) (e : Exc) → LineAlone hears → heard hears i (unwound p f e).events ≡ []
+unfolding IsOtherKind
+heard_unwound hears i p f e alone = unheard hears i (unwound p f e).events alone (refl, tt)
+
+-- of these no more is read than the bits for LINE of their location
+pub line_events_same : (a b : Kind → ℕ → Bool) (i : ℕ) (f : Frame) (location : ℕ) (line last : Option ℕ) → ((t : ℕ) → t < 6 → a (Local location Slot.Line) t ≡ b (Local location Slot.Line) t)
+    → heard a i (line_events f location line last) ≡ heard b i (line_events f location line last)
+line_events_same a b i f location None last same = refl
+line_events_same a b i f location (Some n) None same = heard_same a b i (happens Event.Line (Local location Slot.Line) f n ∷ []) (same, tt)
+line_events_same a b i f location (Some n) (Some m) same = pick (n == m)
+  where
+    pick : (v : Bool) → heard a i (if v then [] else happens Event.Line (Local location Slot.Line) f n ∷ []) ≡ heard b i (if v then [] else happens Event.Line (Local location Slot.Line) f n ∷ [])
+    pick true = refl
+    pick false = heard_same a b i (happens Event.Line (Local location Slot.Line) f n ∷ []) (same, tt)

@@ -18,6 +18,7 @@ use Rattle.mon_recorders.specs.Happenings.{Happening, Local}
 use Rattle.mon_machine.specs.declared.mode.Mode.{Mode}
 use Rattle.mon_machine.specs.Step.{State, happens, line_events, main_events, main_happening, raise_events, executed, effect, line_after}
 use Rattle.mon_machine.specs.Laws.{MarksLine, is_line_kind}
+use Rattle.mon_machine.proofs.Heard.{all_append}
 use Rattle.mon_machine.proofs.Fitting.{KnownAt, line_before}
 use Rattle.mon_machine.proofs.Keeping.{Follows, IsAt}
 
@@ -113,10 +114,6 @@ raise_marked c k p f Mode.Run = tt
 raise_marked c k p f (Mode.Unwind e) = (record { marked = λ h. cc; alone = λ h. cc }, tt)
 raise_marked c k p f (Mode.Ended outcome) = tt
 raise_marked c k p f Mode.Stuck = tt
-
-all_append : {X : Type 0} (P : X → Type 0) (xs ys : List X) → AllByRecursion P xs → AllByRecursion P ys → AllByRecursion P (xs ++ ys)
-all_append P [] ys a b = b
-all_append P (x ∷ xs) ys a b = (a.0, all_append P xs ys a.1 b)
 
 -- of an instruction
 pub executed_marked : (p : Parts) (c : Code) (k : ℕ) (op : Op) (l : Location) (f : Frame) → location_at c f.index ≡ Some l → KnownAt p.bases c (line_before None c.locations f.index) f.index l → IsAt p.bases c k f
