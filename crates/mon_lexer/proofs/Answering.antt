@@ -55,7 +55,7 @@ pub bad_answer : (line : ℕ) (w : List ℕ) (l : Layout) → is_bad (is_some l.
 bad_answer line w l h ss = ap (λ k. first_fault ((k ++ start w) ++ ss)) (change_bad (is_some l.tokens) line w (stack_of l.indentations) h)
 
 pub deeper_answer : (line : ℕ) (w : List ℕ) (old new : Layout) → is_bad (is_some old.tokens) w ≡ false → is_deeper w (top_of (stack_of old.indentations)) ≡ true
-    → new.items ≡ old.items → new.tokens ≡ with_token old.tokens (record { kind = kind.Indent; line = line }) → new.open ≡ old.open → new.indentations ≡ old.indentations ++ w ∷ [] → Shown (indented line w old) old new
+    → new.items ≡ old.items → new.tokens ≡ with_token old.tokens (record { kind = kind.Indent; line = line }) → new.depth ≡ old.depth → new.indentations ≡ old.indentations ++ w ∷ [] → Shown (indented line w old) old new
 deeper_answer line w old new h d i t o n =
     let k : change (is_some old.tokens) line w (stack_of old.indentations) ≡ record { signs = shows kind.Indent line ∷ []; stack = w ∷ stack_of old.indentations }
       = change_deeper (is_some old.tokens) line w (stack_of old.indentations) h d in
@@ -101,7 +101,7 @@ closed_answer line w old new h d e s =
     }
 
 pub start_answer : (line : ℕ) (w : List ℕ) (old mid new : Layout) → is_bad (is_some old.tokens) w ≡ false → is_deeper w (top_of (stack_of old.indentations)) ≡ false → w ≡ []
-    → Shown (closed line w (stack_of old.indentations)) old mid → new.items ≡ with_item mid.items mid.tokens → new.tokens ≡ Some [] → new.open ≡ mid.open → new.indentations ≡ mid.indentations → Shown (indented line w old) old new
+    → Shown (closed line w (stack_of old.indentations)) old mid → new.items ≡ with_item mid.items mid.tokens → new.tokens ≡ Some [] → new.depth ≡ mid.depth → new.indentations ≡ mid.indentations → Shown (indented line w old) old new
 start_answer line w old mid new h d e s i t o n =
     let k : change (is_some old.tokens) line w (stack_of old.indentations) ≡ closed line w (stack_of old.indentations) = change_closed (is_some old.tokens) line w (stack_of old.indentations) h d in
     record {
@@ -115,14 +115,14 @@ start_answer line w old mid new h d e s i t o n =
     }
 
 -- the start of a line's tokens
-shown_at : (a b : Change) (old mid new : Layout) → a ≡ b → ((ss : List Sign) → outcome old ss ≡ outcome mid ss) → mid.open ≡ old.open → Shown b mid new → Shown a old new
+shown_at : (a b : Change) (old mid new : Layout) → a ≡ b → ((ss : List Sign) → outcome old ss ≡ outcome mid ss) → mid.depth ≡ old.depth → Shown b mid new → Shown a old new
 shown_at a b old mid new e k o s = record {
   same = λ ss. ap (λ (c : Change). outcome old (c.signs ++ ss)) e ∙ k (b.signs ++ ss) ∙ s.same ss;
   stack = s.stack ∙ ap (λ (c : Change). c.stack) (sym e);
   depth = s.depth ∙ o;
 }
 
-pub begin_answer : (r : Result Unit LexFault) (line n : ℕ) (w : List ℕ) (old mid new : Layout) → begun_of line old ≡ indented n w mid → mid.items ≡ old.items → mid.tokens ≡ old.tokens → mid.open ≡ old.open
+pub begin_answer : (r : Result Unit LexFault) (line n : ℕ) (w : List ℕ) (old mid new : Layout) → begun_of line old ≡ indented n w mid → mid.items ≡ old.items → mid.tokens ≡ old.tokens → mid.depth ≡ old.depth
     → Answer r (indented n w mid) mid new → Answer r (begun_of line old) old new
 begin_answer (Ok u) line n w old mid new e i t o a = shown_at (begun_of line old) (indented n w mid) old mid new e (λ ss. outcome_kept old mid ss i t) o a
 begin_answer (Err Memory) line n w old mid new e i t o a = tt
@@ -135,14 +135,14 @@ begin_answer (Err TooLong) line n w old mid new e i t o a = λ ss. ap (λ (c : C
 
 -- pieces
 abbrev lines_after : Layout → Piece → List Placed → List (List Placed)
-lines_after l p ps = lines (in_brackets (open_after l.open p) ps)
+lines_after l p ps = lines (in_brackets (open_after l.depth p) ps)
 
 abbrev rest_at : ℕ → Layout → List (List Placed) → List Sign
 rest_at last l ls = rest_from last (is_some l.tokens) (stack_of l.indentations) l.place ls
 
 rest_within : (last line : ℕ) (p : Piece) (l : Layout) (ps : List Placed) → ends_line p ≡ false
     → rest_signs last l (at line p ∷ ps) ≡ rest_at last l ((at line p ∷ head_line (lines_after l p ps)) ∷ tail_lines (lines_after l p ps))
-rest_within last line p l ps h = ap (λ ls. rest_at last l ls) (lines_within l.open line p ps h)
+rest_within last line p l ps h = ap (λ ls. rest_at last l ls) (lines_within l.depth line p ps h)
 
 white_open : (depth : ℕ) (p : Piece) → is_white p ≡ true → open_after depth p ≡ depth
 white_open depth Joined h = refl
@@ -162,7 +162,7 @@ white_goes_on (Wrong f) h = cc
 
 -- the new layout differs in its place alone
 rest_moved : (last : ℕ) (old new : Layout) (ps : List Placed) (place : Place) → new ≡ record old { place = place }
-    → outcome old (rest_from last (is_some old.tokens) (stack_of old.indentations) place (lines (in_brackets old.open ps))) ≡ outcome new (rest_signs last new ps)
+    → outcome old (rest_from last (is_some old.tokens) (stack_of old.indentations) place (lines (in_brackets old.depth ps))) ≡ outcome new (rest_signs last new ps)
 unfolding outcome
 rest_moved last old new ps place e = ap (λ (l : Layout). outcome l (rest_signs last l ps)) (sym e)
 
@@ -172,7 +172,7 @@ white_answer line p old new h e last ps =
     ap (λ ss. outcome old ss)
       (rest_within last line p old ps (white_goes_on p h)
       ∙ rest_white last (is_some old.tokens) (stack_of old.indentations) old.place line p (lines_after old p ps) h
-      ∙ ap (λ d. rest_from last (is_some old.tokens) (stack_of old.indentations) (whitened line old.place) (lines (in_brackets d ps))) (white_open old.open p h))
+      ∙ ap (λ d. rest_from last (is_some old.tokens) (stack_of old.indentations) (whitened line old.place) (lines (in_brackets d ps))) (white_open old.depth p h))
     ∙ rest_moved last old new ps (whitened line old.place) e
 
 pub blank_answer : (line c : ℕ) (old new : Layout) → new ≡ record old { place = blanked line c old.place }
@@ -200,12 +200,12 @@ token_fault f line p old new other h e a = by_fault f a
     by_fault (BadText n) b = λ last ps. ap (λ l. first_fault l) (is last ps) ∙ b (rest last ps)
     by_fault TooLong b = λ last ps. ap (λ l. first_fault l) (is last ps) ∙ b (rest last ps)
 
-rest_is : (last : ℕ) (l : Layout) (started : Bool) (stack : List (List ℕ)) (place : Place) (depth : ℕ) (ps : List Placed) → is_some l.tokens ≡ started → stack_of l.indentations ≡ stack → l.place ≡ place → l.open ≡ depth
+rest_is : (last : ℕ) (l : Layout) (started : Bool) (stack : List (List ℕ)) (place : Place) (depth : ℕ) (ps : List Placed) → is_some l.tokens ≡ started → stack_of l.indentations ≡ stack → l.place ≡ place → l.depth ≡ depth
     → rest_signs last l ps ≡ rest_from last started stack place (lines (in_brackets depth ps))
 rest_is last l started stack place depth ps s t p d =
-    ap (λ x. rest_from last x (stack_of l.indentations) l.place (lines (in_brackets l.open ps))) s
-    ∙ ap (λ x. rest_from last started x l.place (lines (in_brackets l.open ps))) t
-    ∙ ap (λ x. rest_from last started stack x (lines (in_brackets l.open ps))) p
+    ap (λ x. rest_from last x (stack_of l.indentations) l.place (lines (in_brackets l.depth ps))) s
+    ∙ ap (λ x. rest_from last started x l.place (lines (in_brackets l.depth ps))) t
+    ∙ ap (λ x. rest_from last started stack x (lines (in_brackets l.depth ps))) p
     ∙ ap (λ x. rest_from last started stack place (lines (in_brackets x ps))) d
 
 within_is : (last : ℕ) (started : Bool) (stack : List (List ℕ)) (ls : List (List Placed)) → rest_from last started stack Within ls ≡ words (head_line ls) ++ signs last started stack (tail_lines ls)
@@ -213,7 +213,7 @@ unfolding rest_from
 within_is last started stack ls = refl
 
 pub token_answer : (line : ℕ) (k : Kind) (old mid new : Layout) → Shown (begun_of line old) old mid → is_some mid.tokens ≡ begun_started (is_some old.tokens) old.place → mid.place ≡ Within
-    → new.items ≡ mid.items → new.tokens ≡ with_token mid.tokens (record { kind = k; line = line }) → new.place ≡ mid.place → new.indentations ≡ mid.indentations → new.open ≡ open_after mid.open (Word k)
+    → new.items ≡ mid.items → new.tokens ≡ with_token mid.tokens (record { kind = k; line = line }) → new.place ≡ mid.place → new.indentations ≡ mid.indentations → new.depth ≡ open_after mid.depth (Word k)
     → (last : ℕ) (ps : List Placed) → outcome old (rest_signs last old (at line (Word k) ∷ ps)) ≡ outcome new (rest_signs last new ps)
 token_answer line k old mid new s b w i t p n d last ps =
     let started : Bool = begun_started (is_some old.tokens) old.place in
@@ -223,7 +223,7 @@ token_answer line k old mid new s b w i t p n d last ps =
     let begins : rest_signs last old (at line (Word k) ∷ ps) ≡ (begun_of line old).signs ++ (shows k line ∷ rest)
       = rest_within last line (Word k) old ps refl ∙ rest_begun last (is_some old.tokens) (stack_of old.indentations) old.place line (Word k) (head_line ls) (tail_lines ls) refl in
     let ends : rest_signs last new ps ≡ rest
-      = rest_is last new started stack Within (open_after old.open (Word k)) ps
+      = rest_is last new started stack Within (open_after old.depth (Word k)) ps
           (ap (λ o. is_some o) t ∙ started_token mid.tokens (record { kind = k; line = line }) ∙ b)
           (ap (λ l. stack_of l) n ∙ s.stack) (p ∙ w) (d ∙ ap (λ x. open_after x (Word k)) s.depth)
         ∙ within_is last started stack ls in
@@ -254,39 +254,39 @@ in_brackets_joined : (depth line : ℕ) (ps : List Placed) → 0 < depth → lin
 in_brackets_joined zero line ps h = absurd (omega arith)
 in_brackets_joined (suc depth) line ps h = lines_joined depth line ps
 
-pub joined_answer : (line : ℕ) (old new : Layout) → 0 < old.open → new ≡ record old { place = whitened line old.place }
+pub joined_answer : (line : ℕ) (old new : Layout) → 0 < old.depth → new ≡ record old { place = whitened line old.place }
     → (last : ℕ) (ps : List Placed) → outcome old (rest_signs last old (at line LineEnd ∷ ps)) ≡ outcome new (rest_signs last new ps)
-joined_answer line old new h e last ps = ap (λ ls. outcome old (rest_at last old ls)) (in_brackets_joined old.open line ps h) ∙ white_answer line Joined old new refl e last ps
+joined_answer line old new h e last ps = ap (λ ls. outcome old (rest_at last old ls)) (in_brackets_joined old.depth line ps h) ∙ white_answer line Joined old new refl e last ps
 
 outside_ended : (depth line : ℕ) (ps : List Placed) → depth ≤ 0 → lines (in_brackets depth (at line LineEnd ∷ ps)) ≡ (at line LineEnd ∷ []) ∷ lines (in_brackets depth ps)
 outside_ended zero line ps h = lines_ended line ps
 outside_ended (suc depth) line ps h = absurd (omega arith)
 
-pub skipped_answer : (line : ℕ) (old new : Layout) → old.open ≤ 0 → old.place ≡ Fresh → new ≡ record old { place = Fresh }
+pub skipped_answer : (line : ℕ) (old new : Layout) → old.depth ≤ 0 → old.place ≡ Fresh → new ≡ record old { place = Fresh }
     → (last : ℕ) (ps : List Placed) → outcome old (rest_signs last old (at line LineEnd ∷ ps)) ≡ outcome new (rest_signs last new ps)
 skipped_answer line old new h p e last ps =
-    ap (λ ls. outcome old (rest_at last old ls)) (outside_ended old.open line ps h)
-    ∙ ap (λ x. outcome old (rest_from last (is_some old.tokens) (stack_of old.indentations) x ((at line LineEnd ∷ []) ∷ lines (in_brackets old.open ps)))) p
-    ∙ ap (λ ss. outcome old ss) (rest_skipped last (is_some old.tokens) (stack_of old.indentations) line (lines (in_brackets old.open ps)))
+    ap (λ ls. outcome old (rest_at last old ls)) (outside_ended old.depth line ps h)
+    ∙ ap (λ x. outcome old (rest_from last (is_some old.tokens) (stack_of old.indentations) x ((at line LineEnd ∷ []) ∷ lines (in_brackets old.depth ps)))) p
+    ∙ ap (λ ss. outcome old ss) (rest_skipped last (is_some old.tokens) (stack_of old.indentations) line (lines (in_brackets old.depth ps)))
     ∙ rest_moved last old new ps Fresh e
 
-pub white_line_answer : (line n : ℕ) (w : List ℕ) (old new : Layout) → old.open ≤ 0 → old.place ≡ Leading n w → new ≡ record old { place = Fresh }
+pub white_line_answer : (line n : ℕ) (w : List ℕ) (old new : Layout) → old.depth ≤ 0 → old.place ≡ Leading n w → new ≡ record old { place = Fresh }
     → (last : ℕ) (ps : List Placed) → outcome old (rest_signs last old (at line LineEnd ∷ ps)) ≡ outcome new (rest_signs last new ps)
 white_line_answer line n w old new h p e last ps =
-    ap (λ ls. outcome old (rest_at last old ls)) (outside_ended old.open line ps h)
-    ∙ ap (λ x. outcome old (rest_from last (is_some old.tokens) (stack_of old.indentations) x ((at line LineEnd ∷ []) ∷ lines (in_brackets old.open ps)))) p
-    ∙ ap (λ ss. outcome old ss) (rest_white_line last (is_some old.tokens) (stack_of old.indentations) n w line (lines (in_brackets old.open ps)))
+    ap (λ ls. outcome old (rest_at last old ls)) (outside_ended old.depth line ps h)
+    ∙ ap (λ x. outcome old (rest_from last (is_some old.tokens) (stack_of old.indentations) x ((at line LineEnd ∷ []) ∷ lines (in_brackets old.depth ps)))) p
+    ∙ ap (λ ss. outcome old ss) (rest_white_line last (is_some old.tokens) (stack_of old.indentations) n w line (lines (in_brackets old.depth ps)))
     ∙ rest_moved last old new ps Fresh e
 
-pub ended_answer : (line : ℕ) (old new : Layout) → old.open ≤ 0 → old.place ≡ Within
-    → new.items ≡ old.items → new.tokens ≡ with_token old.tokens (record { kind = kind.Newline; line = line }) → new.place ≡ Fresh → new.indentations ≡ old.indentations → new.open ≡ old.open
+pub ended_answer : (line : ℕ) (old new : Layout) → old.depth ≤ 0 → old.place ≡ Within
+    → new.items ≡ old.items → new.tokens ≡ with_token old.tokens (record { kind = kind.Newline; line = line }) → new.place ≡ Fresh → new.indentations ≡ old.indentations → new.depth ≡ old.depth
     → (last : ℕ) (ps : List Placed) → outcome old (rest_signs last old (at line LineEnd ∷ ps)) ≡ outcome new (rest_signs last new ps)
 ended_answer line old new h p i t f n d last ps =
-    let ls : List (List Placed) = lines (in_brackets old.open ps) in
+    let ls : List (List Placed) = lines (in_brackets old.depth ps) in
     let rest : List Sign = rest_from last (is_some old.tokens) (stack_of old.indentations) Fresh ls in
     let ends : rest_signs last new ps ≡ rest
-      = rest_is last new (is_some old.tokens) (stack_of old.indentations) Fresh old.open ps (ap (λ o. is_some o) t ∙ started_token old.tokens (record { kind = kind.Newline; line = line })) (ap (λ l. stack_of l) n) f d in
-    ap (λ k. outcome old (rest_at last old k)) (outside_ended old.open line ps h)
+      = rest_is last new (is_some old.tokens) (stack_of old.indentations) Fresh old.depth ps (ap (λ o. is_some o) t ∙ started_token old.tokens (record { kind = kind.Newline; line = line })) (ap (λ l. stack_of l) n) f d in
+    ap (λ k. outcome old (rest_at last old k)) (outside_ended old.depth line ps h)
     ∙ ap (λ x. outcome old (rest_from last (is_some old.tokens) (stack_of old.indentations) x ((at line LineEnd ∷ []) ∷ ls))) p
     ∙ ap (λ ss. outcome old ss) (rest_line last (is_some old.tokens) (stack_of old.indentations) line ls)
     ∙ outcome_token old new (record { kind = kind.Newline; line = line }) rest i t
@@ -308,11 +308,11 @@ answer_joined {E} r s p old m n e f a =
     let Q : Layout → Type 0 = λ l. IfOk s (λ u. PieceAnswer (Ok u) p old l) in
     subst P (sym e) (subst Q (sym f) a)
 
-pub ended_result : {E : Type 0} (r : Result Unit E) (line : ℕ) (old mid new : Layout) → old.open ≤ 0 → old.place ≡ Within → mid ≡ record old { place = Fresh }
+pub ended_result : {E : Type 0} (r : Result Unit E) (line : ℕ) (old mid new : Layout) → old.depth ≤ 0 → old.place ≡ Within → mid ≡ record old { place = Fresh }
     → OnOk r (new ≡ record mid { tokens = with_token mid.tokens (record { kind = kind.Newline; line = line }) }) → IfOk r (λ u. PieceAnswer (Ok u) (at line LineEnd) old new)
 ended_result (Err e) line old mid new h p m o = tt
 ended_result (Ok u) line old mid new h p m o =
     ended_answer line old new h p (ap (λ (l : Layout). l.items) o ∙ ap (λ (l : Layout). l.items) m)
       (ap (λ (l : Layout). l.tokens) o ∙ ap (λ (l : Layout). with_token l.tokens (record { kind = kind.Newline; line = line })) m)
       (ap (λ (l : Layout). l.place) o ∙ ap (λ (l : Layout). l.place) m) (ap (λ (l : Layout). l.indentations) o ∙ ap (λ (l : Layout). l.indentations) m)
-      (ap (λ (l : Layout). l.open) o ∙ ap (λ (l : Layout). l.open) m)
+      (ap (λ (l : Layout). l.depth) o ∙ ap (λ (l : Layout). l.depth) m)

@@ -65,7 +65,7 @@ line_past_count (c ∷ cs) rest line = line_step c line (line_past cs (line_afte
 -- the text has been read so far
 pub record Lexing (cs : List ℕ) (cursor : Reading) (layout : Layout) : Type 0 where
   pub same : outcome layout (rest_signs (last_line cs) layout (pieces cursor.line 0 cursor.left)) ≡ record { fault = first_fault (signs_of cs); items = items_of (signs_of cs) }
-  pub room : layout.open + length cursor.left < 2 ^ 20
+  pub room : layout.depth + length cursor.left < 2 ^ 20
   pub last : cursor.line + line_ends_in cursor.left ≡ last_line cs
 
 pub lexing_none : (cs : List ℕ) (cursor : Reading) (layout start : Layout) → cursor.left ≡ cs → cursor.line ≡ 1 → length cs ≤ 262144 → layout ≡ start
@@ -76,7 +76,7 @@ lexing_none cs cursor layout start l n m e x =
     let is : cursor ≡ record { left = cs; line = 1 } = ap (λ k. record { left = k; line = cursor.line }) l ∙ ap (λ k. record { left = cs; line = k }) n in
     subst P (sym e) (subst Q (sym is) x)
 
-pub lexing_start : (cs : List ℕ) (start : Layout) → length cs ≤ 262144 → Lexing cs (record { left = cs; line = 1 }) (record start { «open» = 0; indentations = []; place = Fresh; items = []; tokens = None })
+pub lexing_start : (cs : List ℕ) (start : Layout) → length cs ≤ 262144 → Lexing cs (record { left = cs; line = 1 }) (record start { depth = 0; indentations = []; place = Fresh; items = []; tokens = None })
 unfolding outcome rest_from
 lexing_start cs start m = record { same = refl; room = omega arith; last = refl }
 
@@ -89,7 +89,7 @@ pub answer_at : (r : Result Unit LexFault) (line n : ℕ) (p : Piece) (old new :
 answer_at r line n p old new e a = let P : ℕ → Type 0 = λ k. PieceAnswer r (at k p) old new in subst P e a
 
 pub lexing_more : (cs : List ℕ) (p : Piece) (old new : Reading) (layout next : Layout) → Lexing cs old layout → PieceRead p old new → PieceAnswer (Ok tt) (at old.line p) layout next → is_wrong p ≡ false
-    → next.open ≤ layout.open + 1 → Lexing cs new next
+    → next.depth ≤ layout.depth + 1 → Lexing cs new next
 lexing_more cs p old new layout next x r a w o =
     let s : Spanned r.width old new = r.spanned w in
     record {

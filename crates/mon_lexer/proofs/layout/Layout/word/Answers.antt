@@ -14,4 +14,4 @@ pub returns-clause-answer : goal.returns-clause-answer
 returns-clause-answer c =
     token_answer c.args.line c.args.kind c.args.self.now c.begin.new.self c.push.new.self c.in_ok-begin.ensures.answer c.in_ok-begin.ensures.started c.in_ok-begin.ensures.place
       (ap (λ (l : Layout). l.items) c.in_ok-push.ensures) (ap (λ (l : Layout). l.tokens) c.in_ok-push.ensures) (ap (λ (l : Layout). l.place) c.in_ok-push.ensures) (ap (λ (l : Layout). l.indentations) c.in_ok-push.ensures)
-      (ap (λ (l : Layout). l.open) c.in_ok-push.ensures ∙ c.open_after-self.ensures)
+      (ap (λ (l : Layout). l.depth) c.in_ok-push.ensures ∙ c.open_after-self.ensures)
