@@ -1,11 +1,9 @@
 -- What a layout answers to a line's white space, and to a piece.
-use Rattle.std.proofs.Common.{◌≡◌, ◌≢◌, ◌<◌, ◌≤◌, arith, ℕ, zero, suc, List, [], ◌∷◌, ◌++◌, Bool, true, false, not, ◌&&◌, ◌||◌, nat_eq, nat_lt, length, refl, sym, ap, ◌∙◌, append_assoc, append-nil, Option, Some, None, is_some, Result, Ok, Err, OnOk, IfOk, subst, if◌then◌else◌}
-use Rattle.std.specs.Str.{bytes_eq}
+use Rattle.std.proofs.Common.{◌≡◌, ◌≢◌, ◌<◌, ◌≤◌, arith, ℕ, zero, suc, List, [], ◌∷◌, ◌++◌, Bool, true, false, ◌||◌, nat_lt, length, refl, sym, ap, ◌∙◌, append_assoc, append-nil, Some, is_some, Result, Ok, Err, OnOk, IfOk, subst, if◌then◌else◌}
 use Rattle.std.specs.Result.{IsErrAnd}
-use Rattle.std.specs.List.{starts_with}
 use Rattle.mon_lexer.specs.Pieces.{Placed}
-use Rattle.mon_lexer.specs.Layout.{Sign, Start, Shows, Breaks, Change, shows, closed, change, start, is_bad, is_deeper, is_mixed, top_of, first_fault, words, signs, in_brackets, lines, open_after, is_substance, all_closed}
-use Rattle.mon_lexer.specs.Shown.{outcome, with_token, with_item, stack_of, Shown, Answer, PieceAnswer, indented_from, indented, begun, begun_of, begun_started, rest_signs, rest_from, whitened, blanked, head_line, tail_lines}
+use Rattle.mon_lexer.specs.Layout.{Sign, Start, Breaks, Change, shows, closed, change, start, is_bad, is_deeper, is_mixed, top_of, first_fault, words, signs, in_brackets, lines, open_after, is_substance}
+use Rattle.mon_lexer.specs.Shown.{outcome, with_token, with_item, stack_of, Shown, Answer, PieceAnswer, indented, begun_of, begun_started, rest_signs, rest_from, whitened, blanked, head_line, tail_lines}
 use Rattle.mon_lexer.specs.declared.layout.Layout.{Layout}
 use Rattle.mon_lexer.specs.declared.layout.Place.{Place}
 use Rattle.mon_lexer.specs.declared.layout.Place.TheVariants.{Fresh, Leading, Within}
@@ -13,7 +11,6 @@ use Rattle.mon_lexer.specs.declared.piece.Piece.{Piece}
 use Rattle.mon_lexer.specs.declared.piece.Piece.TheVariants.{Blank, Joined, Comment, LineEnd, Word, Wrong}
 use Rattle.mon_lexer.specs.declared.token.Kind.{Kind}
 use Rattle.mon_lexer.specs.declared.token.Kind.TheVariants as kind
-use Rattle.mon_lexer.specs.declared.token.Token.{Token}
 use Rattle.mon_lexer.specs.declared.token.LexFault.{LexFault}
 use Rattle.mon_lexer.specs.declared.token.LexFault.TheVariants.{NotUtf8, BadChar, BadIndent, BadNumber, BadText, TooLong, Memory}
 use Rattle.mon_lexer.proofs.Lines.{at, lines_within, lines_joined, lines_ended, is_white, rest_white, rest_blank, rest_skipped, rest_white_line, rest_line, sign_of, rest_begun, ends_line}
@@ -58,11 +55,11 @@ pub deeper_answer : (line : ℕ) (w : List ℕ) (old new : Layout) → is_bad (i
     → new.items ≡ old.items → new.tokens ≡ with_token old.tokens (record { kind = kind.Indent; line = line }) → new.depth ≡ old.depth → new.indentations ≡ old.indentations ++ w ∷ [] → Shown (indented line w old) old new
 deeper_answer line w old new h d i t o n =
     let k : change (is_some old.tokens) line w (stack_of old.indentations) ≡ record { signs = shows kind.Indent line ∷ []; stack = w ∷ stack_of old.indentations }
-      = change_deeper (is_some old.tokens) line w (stack_of old.indentations) h d in
+    = change_deeper (is_some old.tokens) line w (stack_of old.indentations) h d in
     record {
       same = λ ss. ap (λ (c : Change). outcome old ((c.signs ++ start w) ++ ss)) k
-        ∙ ap (λ l. outcome old ((shows kind.Indent line ∷ l) ++ ss)) (deeper_start w (top_of (stack_of old.indentations)) d)
-        ∙ outcome_token old new (record { kind = kind.Indent; line = line }) ss i t;
+          ∙ ap (λ l. outcome old ((shows kind.Indent line ∷ l) ++ ss)) (deeper_start w (top_of (stack_of old.indentations)) d)
+          ∙ outcome_token old new (record { kind = kind.Indent; line = line }) ss i t;
       stack = ap (λ l. stack_of l) n ∙ stack_more old.indentations w ∙ ap (λ (c : Change). c.stack) (sym k);
       depth = o;
     }
@@ -93,9 +90,9 @@ closed_answer line w old new h d e s =
     let k : change (is_some old.tokens) line w (stack_of old.indentations) ≡ closed line w (stack_of old.indentations) = change_closed (is_some old.tokens) line w (stack_of old.indentations) h d in
     record {
       same = λ ss. ap (λ (c : Change). outcome old ((c.signs ++ start w) ++ ss)) k
-        ∙ ap (λ l. outcome old (((closed line w (stack_of old.indentations)).signs ++ l) ++ ss)) e
-        ∙ ap (λ l. outcome old (l ++ ss)) (append-nil (closed line w (stack_of old.indentations)).signs)
-        ∙ s.same ss;
+          ∙ ap (λ l. outcome old (((closed line w (stack_of old.indentations)).signs ++ l) ++ ss)) e
+          ∙ ap (λ l. outcome old (l ++ ss)) (append-nil (closed line w (stack_of old.indentations)).signs)
+          ∙ s.same ss;
       stack = s.stack ∙ ap (λ (c : Change). c.stack) (sym k);
       depth = s.depth;
     }
@@ -106,10 +103,10 @@ start_answer line w old mid new h d e s i t o n =
     let k : change (is_some old.tokens) line w (stack_of old.indentations) ≡ closed line w (stack_of old.indentations) = change_closed (is_some old.tokens) line w (stack_of old.indentations) h d in
     record {
       same = λ ss. ap (λ (c : Change). outcome old ((c.signs ++ start w) ++ ss)) k
-        ∙ ap (λ l. outcome old (((closed line w (stack_of old.indentations)).signs ++ start l) ++ ss)) e
-        ∙ ap (λ l. outcome old l) (append_assoc (closed line w (stack_of old.indentations)).signs (Start ∷ []) ss)
-        ∙ s.same (Start ∷ ss)
-        ∙ outcome_item mid new ss i t;
+          ∙ ap (λ l. outcome old (((closed line w (stack_of old.indentations)).signs ++ start l) ++ ss)) e
+          ∙ ap (λ l. outcome old l) (append_assoc (closed line w (stack_of old.indentations)).signs (Start ∷ []) ss)
+          ∙ s.same (Start ∷ ss)
+          ∙ outcome_item mid new ss i t;
       stack = ap (λ l. stack_of l) n ∙ s.stack ∙ ap (λ (c : Change). c.stack) (sym k);
       depth = o ∙ s.depth;
     }
@@ -170,17 +167,17 @@ pub white_answer : (line : ℕ) (p : Piece) (old new : Layout) → is_white p �
     → (last : ℕ) (ps : List Placed) → outcome old (rest_signs last old (at line p ∷ ps)) ≡ outcome new (rest_signs last new ps)
 white_answer line p old new h e last ps =
     ap (λ ss. outcome old ss)
-      (rest_within last line p old ps (white_goes_on p h)
-      ∙ rest_white last (is_some old.tokens) (stack_of old.indentations) old.place line p (lines_after old p ps) h
-      ∙ ap (λ d. rest_from last (is_some old.tokens) (stack_of old.indentations) (whitened line old.place) (lines (in_brackets d ps))) (white_open old.depth p h))
+    (rest_within last line p old ps (white_goes_on p h)
+    ∙ rest_white last (is_some old.tokens) (stack_of old.indentations) old.place line p (lines_after old p ps) h
+    ∙ ap (λ d. rest_from last (is_some old.tokens) (stack_of old.indentations) (whitened line old.place) (lines (in_brackets d ps))) (white_open old.depth p h))
     ∙ rest_moved last old new ps (whitened line old.place) e
 
 pub blank_answer : (line c : ℕ) (old new : Layout) → new ≡ record old { place = blanked line c old.place }
     → (last : ℕ) (ps : List Placed) → outcome old (rest_signs last old (at line (Blank c) ∷ ps)) ≡ outcome new (rest_signs last new ps)
 blank_answer line c old new e last ps =
     ap (λ ss. outcome old ss)
-      (rest_within last line (Blank c) old ps refl
-      ∙ rest_blank last (is_some old.tokens) (stack_of old.indentations) old.place line c (lines_after old (Blank c) ps))
+    (rest_within last line (Blank c) old ps refl
+    ∙ rest_blank last (is_some old.tokens) (stack_of old.indentations) old.place line c (lines_after old (Blank c) ps))
     ∙ rest_moved last old new ps (blanked line c old.place) e
 
 -- a token
@@ -189,8 +186,10 @@ token_fault f line p old new other h e a = by_fault f a
   where
     rest : (last : ℕ) (ps : List Placed) → List Sign
     rest last ps = sign_of line p ∷ (words (head_line (lines_after old p ps)) ++ signs last (begun_started (is_some old.tokens) old.place) (begun_of line old).stack (tail_lines (lines_after old p ps)))
+
     is : (last : ℕ) (ps : List Placed) → rest_signs last old (at line p ∷ ps) ≡ (begun_of line old).signs ++ rest last ps
     is last ps = rest_within last line p old ps e ∙ rest_begun last (is_some old.tokens) (stack_of old.indentations) old.place line p (head_line (lines_after old p ps)) (tail_lines (lines_after old p ps)) h
+
     by_fault : (g : LexFault) → Answer (Err g) (begun_of line old) old new → PieceAnswer (Err g) (at line p) old other
     by_fault Memory b = tt
     by_fault (NotUtf8 n) b = λ last ps. ap (λ l. first_fault l) (is last ps) ∙ b (rest last ps)
@@ -221,12 +220,12 @@ token_answer line k old mid new s b w i t p n d last ps =
     let ls : List (List Placed) = lines_after old (Word k) ps in
     let rest : List Sign = words (head_line ls) ++ signs last started stack (tail_lines ls) in
     let begins : rest_signs last old (at line (Word k) ∷ ps) ≡ (begun_of line old).signs ++ (shows k line ∷ rest)
-      = rest_within last line (Word k) old ps refl ∙ rest_begun last (is_some old.tokens) (stack_of old.indentations) old.place line (Word k) (head_line ls) (tail_lines ls) refl in
+    = rest_within last line (Word k) old ps refl ∙ rest_begun last (is_some old.tokens) (stack_of old.indentations) old.place line (Word k) (head_line ls) (tail_lines ls) refl in
     let ends : rest_signs last new ps ≡ rest
-      = rest_is last new started stack Within (open_after old.depth (Word k)) ps
-          (ap (λ o. is_some o) t ∙ started_token mid.tokens (record { kind = k; line = line }) ∙ b)
-          (ap (λ l. stack_of l) n ∙ s.stack) (p ∙ w) (d ∙ ap (λ x. open_after x (Word k)) s.depth)
-        ∙ within_is last started stack ls in
+    = rest_is last new started stack Within (open_after old.depth (Word k)) ps
+    (ap (λ o. is_some o) t ∙ started_token mid.tokens (record { kind = k; line = line }) ∙ b)
+    (ap (λ l. stack_of l) n ∙ s.stack) (p ∙ w) (d ∙ ap (λ x. open_after x (Word k)) s.depth)
+    ∙ within_is last started stack ls in
     ap (λ ss. outcome old ss) begins ∙ s.same (shows k line ∷ rest) ∙ outcome_token mid new (record { kind = k; line = line }) rest i t ∙ ap (λ ss. outcome new ss) (sym ends)
 
 -- a wrong piece
@@ -235,11 +234,13 @@ wrong_answer f line old mid other s = by_fault f first
   where
     rest : (last : ℕ) (ps : List Placed) → List Sign
     rest last ps = Breaks f ∷ (words (head_line (lines_after old (Wrong f) ps)) ++ signs last (begun_started (is_some old.tokens) old.place) (begun_of line old).stack (tail_lines (lines_after old (Wrong f) ps)))
+
     first : (last : ℕ) (ps : List Placed) → first_fault (rest_signs last old (at line (Wrong f) ∷ ps)) ≡ Some f
     first last ps =
         ap (λ l. first_fault l) (rest_within last line (Wrong f) old ps refl
-          ∙ rest_begun last (is_some old.tokens) (stack_of old.indentations) old.place line (Wrong f) (head_line (lines_after old (Wrong f) ps)) (tail_lines (lines_after old (Wrong f) ps)) refl)
+        ∙ rest_begun last (is_some old.tokens) (stack_of old.indentations) old.place line (Wrong f) (head_line (lines_after old (Wrong f) ps)) (tail_lines (lines_after old (Wrong f) ps)) refl)
         ∙ fault_of old mid ((begun_of line old).signs ++ rest last ps) (rest last ps) (s.same (rest last ps))
+
     by_fault : (g : LexFault) → ((last : ℕ) (ps : List Placed) → first_fault (rest_signs last old (at line (Wrong f) ∷ ps)) ≡ Some g) → PieceAnswer (Err g) (at line (Wrong f)) old other
     by_fault Memory b = tt
     by_fault (NotUtf8 n) b = b
@@ -285,7 +286,7 @@ ended_answer line old new h p i t f n d last ps =
     let ls : List (List Placed) = lines (in_brackets old.depth ps) in
     let rest : List Sign = rest_from last (is_some old.tokens) (stack_of old.indentations) Fresh ls in
     let ends : rest_signs last new ps ≡ rest
-      = rest_is last new (is_some old.tokens) (stack_of old.indentations) Fresh old.depth ps (ap (λ o. is_some o) t ∙ started_token old.tokens (record { kind = kind.Newline; line = line })) (ap (λ l. stack_of l) n) f d in
+    = rest_is last new (is_some old.tokens) (stack_of old.indentations) Fresh old.depth ps (ap (λ o. is_some o) t ∙ started_token old.tokens (record { kind = kind.Newline; line = line })) (ap (λ l. stack_of l) n) f d in
     ap (λ k. outcome old (rest_at last old k)) (outside_ended old.depth line ps h)
     ∙ ap (λ x. outcome old (rest_from last (is_some old.tokens) (stack_of old.indentations) x ((at line LineEnd ∷ []) ∷ ls))) p
     ∙ ap (λ ss. outcome old ss) (rest_line last (is_some old.tokens) (stack_of old.indentations) line ls)
@@ -313,6 +314,6 @@ pub ended_result : {E : Type 0} (r : Result Unit E) (line : ℕ) (old mid new : 
 ended_result (Err e) line old mid new h p m o = tt
 ended_result (Ok u) line old mid new h p m o =
     ended_answer line old new h p (ap (λ (l : Layout). l.items) o ∙ ap (λ (l : Layout). l.items) m)
-      (ap (λ (l : Layout). l.tokens) o ∙ ap (λ (l : Layout). with_token l.tokens (record { kind = kind.Newline; line = line })) m)
-      (ap (λ (l : Layout). l.place) o ∙ ap (λ (l : Layout). l.place) m) (ap (λ (l : Layout). l.indentations) o ∙ ap (λ (l : Layout). l.indentations) m)
-      (ap (λ (l : Layout). l.depth) o ∙ ap (λ (l : Layout). l.depth) m)
+    (ap (λ (l : Layout). l.tokens) o ∙ ap (λ (l : Layout). with_token l.tokens (record { kind = kind.Newline; line = line })) m)
+    (ap (λ (l : Layout). l.place) o ∙ ap (λ (l : Layout). l.place) m) (ap (λ (l : Layout). l.indentations) o ∙ ap (λ (l : Layout). l.indentations) m)
+    (ap (λ (l : Layout). l.depth) o ∙ ap (λ (l : Layout). l.depth) m)

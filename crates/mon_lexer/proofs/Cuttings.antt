@@ -1,12 +1,12 @@
 -- A text cut piece after piece, and the answer at its end.
-use Rattle.std.proofs.Common.{◌≡◌, ℕ, zero, suc, List, [], ◌∷◌, ◌++◌, Bool, true, false, ◌==◌, ◌+◌, ◌-◌, ◌<◌, ◌≤◌, ◌^◌, refl, sym, ap, ◌∙◌, arith, length, length-append, Option, Some, None, is_some, Result, Ok, Err, IfOk, OnOk, subst, count_by, if◌then◌else◌, cond}
+use Rattle.std.proofs.Common.{◌≡◌, ℕ, List, [], ◌∷◌, ◌++◌, Bool, true, false, ◌==◌, ◌+◌, ◌-◌, ◌<◌, ◌≤◌, ◌^◌, refl, sym, ap, ◌∙◌, arith, length, length-append, Option, Some, None, is_some, Result, Ok, Err, subst, count_by, if◌then◌else◌, cond}
 use Rattle.std.proofs.lemmas.List.Sums.{sum_by-cons}
 use Rattle.std.specs.Result.{IsErrAnd}
-use Rattle.mon_lexer.specs.Characters.{line_after, source}
-use Rattle.mon_lexer.specs.Reading.{Reading, Past, Spanned, line_past, first}
+use Rattle.mon_lexer.specs.Characters.{line_after}
+use Rattle.mon_lexer.specs.Reading.{Reading, Spanned, line_past, first}
 use Rattle.mon_lexer.specs.Pieces.{Front, Placed, front, pieces}
 use Rattle.mon_lexer.specs.PieceReads.{PieceRead, front_at, is_wrong}
-use Rattle.mon_lexer.specs.Layout.{Sign, lines, in_brackets, signs, shows, all_closed, first_fault, items_of}
+use Rattle.mon_lexer.specs.Layout.{Sign, all_closed, first_fault, items_of}
 use Rattle.mon_lexer.specs.Shown.{outcome, Outcome, finished, rest_signs, rest_from, stack_of, PieceAnswer}
 use Rattle.mon_lexer.specs.Top.{last_line, signs_of, Gives}
 use Rattle.mon_lexer.specs.declared.layout.Layout.{Layout}
@@ -17,7 +17,6 @@ use Rattle.mon_lexer.specs.declared.token.Item.{Item}
 use Rattle.mon_lexer.specs.declared.token.LexFault.{LexFault}
 use Rattle.mon_lexer.specs.declared.token.LexFault.TheVariants.{NotUtf8, BadChar, BadIndent, BadNumber, BadText, TooLong, Memory}
 use Rattle.mon_lexer.proofs.Lines.{at, rest_end}
-use Rattle.mon_lexer.proofs.Closings.{fault_of}
 
 -- pieces behind those that were read
 pieces_past : (read rest : List ℕ) (line : ℕ) → pieces line (length read) (read ++ rest) ≡ pieces (line_past read line) 0 rest
@@ -141,10 +140,11 @@ end_gives cs line cursor layout next items x e n a i =
     let lasts : last_line cs ≡ line = omega (arith, x.last, ap (λ l. line_ends_in l) e) in
     let rest : List Sign = all_closed (last_line cs) (stack_of next.indentations) in
     let is : outcome next rest ≡ record { fault = first_fault (signs_of cs); items = items_of (signs_of cs) }
-      = ap (λ ss. outcome next ss) (sym (rest_end (last_line cs) (is_some next.tokens) (stack_of next.indentations) next.place))
-        ∙ sym (a (last_line cs) [])
-        ∙ ap (λ k. outcome layout (rest_signs (last_line cs) layout (at k LineEnd ∷ []))) n
-        ∙ ap (λ l. outcome layout (rest_signs (last_line cs) layout (pieces cursor.line 0 l))) (sym e)
-        ∙ x.same in
-    (sym (ap (λ (o : Outcome). o.fault) is) ∙ no_fault (last_line cs) (stack_of next.indentations),
-     i ∙ ap (λ k. finished next.items next.tokens (all_closed k (stack_of next.indentations))) (sym lasts) ∙ ap (λ (o : Outcome). o.items) is)
+    = ap (λ ss. outcome next ss) (sym (rest_end (last_line cs) (is_some next.tokens) (stack_of next.indentations) next.place))
+    ∙ sym (a (last_line cs) [])
+    ∙ ap (λ k. outcome layout (rest_signs (last_line cs) layout (at k LineEnd ∷ []))) n
+    ∙ ap (λ l. outcome layout (rest_signs (last_line cs) layout (pieces cursor.line 0 l))) (sym e)
+    ∙ x.same in (
+      sym (ap (λ (o : Outcome). o.fault) is) ∙ no_fault (last_line cs) (stack_of next.indentations),
+      i ∙ ap (λ k. finished next.items next.tokens (all_closed k (stack_of next.indentations))) (sym lasts) ∙ ap (λ (o : Outcome). o.items) is,
+    )

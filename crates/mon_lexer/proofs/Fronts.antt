@@ -1,18 +1,18 @@
 -- The piece that comes next, by its first character.
-use Rattle.std.proofs.Common.{◌≡◌, ℕ, List, [], ◌∷◌, ◌++◌, Bool, true, false, ◌==◌, ◌||◌, ◌&&◌, ◌+◌, ◌<◌, Option, Some, None, refl, sym, ap, ◌∙◌, arith, subst, length, lit<, if◌then◌else◌, Result, Ok, Err, IfOk}
+use Rattle.std.proofs.Common.{◌≡◌, ℕ, List, [], ◌∷◌, Bool, true, false, ◌==◌, ◌||◌, ◌&&◌, ◌+◌, ◌<◌, Some, None, refl, sym, ap, ◌∙◌, arith, subst, length, lit<}
 use Rattle.std.specs.Char.{is_ascii_digit}
 use Rattle.mon_lexer.specs.Characters.{is_letter, is_name_char, is_number_char, is_quote, is_blank, is_inside_line, begins_with, run}
-use Rattle.mon_lexer.specs.Texts.{quoted, Quoted}
+use Rattle.mon_lexer.specs.Texts.{quoted}
 use Rattle.mon_lexer.specs.TextReads.{TextRead}
-use Rattle.mon_lexer.specs.Reading.{Reading, Past, Spanned, first}
-use Rattle.mon_lexer.specs.Pieces.{Front, front, one, name_front, number_front, text_front, operator_front, operator_at, word}
-use Rattle.mon_lexer.specs.PieceReads.{PieceRead, OperatorRead, front_at, begins_word, is_wrong}
+use Rattle.mon_lexer.specs.Reading.{Reading, Past, first}
+use Rattle.mon_lexer.specs.Pieces.{front, one, name_front, number_front, text_front, operator_front, operator_at, word}
+use Rattle.mon_lexer.specs.PieceReads.{PieceRead, OperatorRead, front_at, begins_word}
 use Rattle.mon_lexer.specs.declared.piece.Piece.{Piece}
-use Rattle.mon_lexer.specs.declared.piece.Piece.TheVariants.{Blank, Joined, Comment, LineEnd, Word, Wrong}
+use Rattle.mon_lexer.specs.declared.piece.Piece.TheVariants.{Blank, Joined, Comment, Word, Wrong}
 use Rattle.mon_lexer.specs.declared.token.Kind.{Kind}
 use Rattle.mon_lexer.specs.declared.token.Kind.TheVariants as kind
 use Rattle.mon_lexer.specs.declared.token.Operator.{Operator}
-use Rattle.mon_lexer.specs.declared.token.LexFault.TheVariants.{BadChar, BadNumber, BadText}
+use Rattle.mon_lexer.specs.declared.token.LexFault.TheVariants.{BadChar, BadText}
 use Rattle.mon_lexer.proofs.Past.{past_append}
 
 first_is : (c : ℕ) (cs rest : List ℕ) → cs ≡ c ∷ rest → first cs ≡ Some c
@@ -199,7 +199,7 @@ read_blank c old new w h p =
     record {
       width = 1;
       is = ap (λ l. front_at old.line l) p.left
-        ∙ blank_is old.line c new.left (or_false (is_letter c) (is_ascii_digit c) pair) (or_false_after (is_letter c) (is_ascii_digit c) pair) (or_false_after (is_letter c || is_ascii_digit c) (is_quote c) w) h;
+          ∙ blank_is old.line c new.left (or_false (is_letter c) (is_ascii_digit c) pair) (or_false_after (is_letter c) (is_ascii_digit c) pair) (or_false_after (is_letter c || is_ascii_digit c) (is_quote c) w) h;
       some = lit< tt;
       spanned = λ _. record { front = c ∷ []; size = refl; past = p };
     }

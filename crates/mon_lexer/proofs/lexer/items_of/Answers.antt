@@ -1,9 +1,7 @@
-use Rattle.std.proofs.Common.{◌≡◌, ◌≤◌, ℕ, List, [], refl, sym, ap, ◌∙◌, length, Ok, Err, None, arith, subst}
+use Rattle.std.proofs.Common.{◌≡◌, ◌≤◌, ℕ, List, sym, ap, ◌∙◌, length, Ok, Err, arith}
 use Rattle.mon_lexer.specs.Characters.{source, line_ends}
 use Rattle.mon_lexer.specs.Layout.{first_fault, items_of}
 use Rattle.mon_lexer.specs.Top.{signs_of}
-use Rattle.mon_lexer.specs.declared.layout.Place.TheVariants.{Fresh}
-use Rattle.mon_lexer.specs.declared.piece.Piece.TheVariants.{LineEnd}
 use Rattle.mon_lexer.proofs.Cuttings.{lexing_none, lexing_start, lexing_more, wrong_gives, gives_of, end_gives, answer_at, nothing_left}
 use Rattle.mon_lexer.proofs.lexer.items_of.Goals as goal
 
@@ -16,15 +14,15 @@ reading-init c =
 pub reading-preserved : goal.reading-preserved
 reading-preserved c =
     lexing_more (source c.args.text.now) c.in_ok-piece.piece c.reading.cursor c.next_piece.new.cursor c.reading.layout c.put.new.self c.reading.invariant c.in_ok-piece.ensures
-      (answer_at (Ok tt) c.line-line.result c.reading.cursor.line c.in_ok-piece.piece c.reading.layout c.put.new.self c.line-line.ensures c.in_ok-put.ensures.answer) c.in_ok-put.ensures.right c.in_ok-put.ensures.depth
+    (answer_at (Ok tt) c.line-line.result c.reading.cursor.line c.in_ok-piece.piece c.reading.layout c.put.new.self c.line-line.ensures c.in_ok-put.ensures.answer) c.in_ok-put.ensures.right c.in_ok-put.ensures.depth
 
 pub returns-in_err-put : goal.returns-in_err-put
 returns-in_err-put c =
     gives_of c.from_residual-in_err-put.result c.in_err-put.field-0.0 (first_fault (signs_of (source c.args.text.now))) (items_of (signs_of (source c.args.text.now))) c.from_residual-in_err-put.ensures.1
-      (wrong_gives (source c.args.text.now) c.in-Some.c c.in_ok-piece.piece c.reading.cursor c.next_piece.new.cursor c.reading.layout c.put.new.self c.in_err-put.field-0.0 c.reading.invariant (sym c.in-Some.ensures) c.in_ok-piece.ensures
-        (answer_at (Err c.in_err-put.field-0.0) c.line-line.result c.reading.cursor.line c.in_ok-piece.piece c.reading.layout c.put.new.self c.line-line.ensures c.in_err-put.ensures.answer))
+    (wrong_gives (source c.args.text.now) c.in-Some.c c.in_ok-piece.piece c.reading.cursor c.next_piece.new.cursor c.reading.layout c.put.new.self c.in_err-put.field-0.0 c.reading.invariant (sym c.in-Some.ensures) c.in_ok-piece.ensures
+    (answer_at (Err c.in_err-put.field-0.0) c.line-line.result c.reading.cursor.line c.in_ok-piece.piece c.reading.layout c.put.new.self c.line-line.ensures c.in_err-put.ensures.answer))
 
 pub returns : goal.returns
 returns c =
     end_gives (source c.args.text.now) c.line-last.result c.reading.cursor c.reading.layout c.line_end.new.self c.in_ok-finish.field-0 c.reading.invariant (nothing_left c.reading.cursor.left c.in_default.ensures) c.line-last.ensures
-      c.in_ok-line_end.ensures.answer c.in_ok-finish.ensures
+    c.in_ok-line_end.ensures.answer c.in_ok-finish.ensures

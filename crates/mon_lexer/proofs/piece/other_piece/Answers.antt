@@ -1,9 +1,8 @@
-use Rattle.std.proofs.Common.{◌≡◌, ◌==◌, ◌||◌, ℕ, List, ◌∷◌, [], true, false, refl, sym, ap, ◌∙◌, arith, rules, subst, Some, None}
-use Rattle.mon_lexer.specs.Reading.{Reading, Past, first}
+use Rattle.std.proofs.Common.{◌≡◌, ◌==◌, ℕ, false, refl, sym, arith, rules, subst}
 use Rattle.mon_lexer.specs.Pieces.{front, operator_at}
 use Rattle.mon_lexer.specs.Words.{operators}
 use Rattle.mon_lexer.specs.PieceReads.{PieceRead}
-use Rattle.mon_lexer.specs.declared.piece.Piece.TheVariants.{LineEnd, Wrong, Word}
+use Rattle.mon_lexer.specs.declared.piece.Piece.TheVariants.{LineEnd, Wrong}
 use Rattle.mon_lexer.specs.declared.token.LexFault.TheVariants.{BadChar}
 use Rattle.mon_lexer.proofs.Fronts.{read_blank, read_one, read_comment, read_joined, read_backslash, read_operator, read_no_operator}
 use Rattle.mon_lexer.proofs.piece.other_piece.Goals as goal
@@ -26,7 +25,7 @@ unfolding operator_at operators
 returns-else-take c =
     let P : ℕ → Type 0 = λ n. PieceRead (Wrong (BadChar n)) c.args.cursor.now c.take.new.self in
     subst P (sym c.line-line.ensures)
-      (read_backslash c.args.c c.args.cursor.now c.advance-in-92.new.self c.take.new.self c.in-92.is (c.advance-in-92.ensures c.args.c c.requires.next) c.if-take.ensures.other.0 (λ cs. refl))
+    (read_backslash c.args.c c.args.cursor.now c.advance-in-92.new.self c.take.new.self c.in-92.is (c.advance-in-92.ensures c.args.c c.requires.next) c.if-take.ensures.other.0 (λ cs. refl))
 
 pub returns-in-None : goal.returns-in-None
 returns-in-None c =
@@ -37,7 +36,7 @@ returns-in-None c =
     let e35 : (c.args.c == 35) ≡ false = first_of (search rules, grind arith) in
     let e92 : (c.args.c == 92) ≡ false = first_of (search rules, grind arith) in
     subst P (sym c.line-line-in_default.ensures)
-      (read_no_operator c.args.c c.args.cursor.now c.operator.new.cursor c.requires.next c.requires.no_letter e32 e9 e10 e35 e92 c.in-None.ensures)
+    (read_no_operator c.args.c c.args.cursor.now c.operator.new.cursor c.requires.next c.requires.no_letter e32 e9 e10 e35 e92 c.in-None.ensures)
 
 pub returns-in-Some : goal.returns-in-Some
 returns-in-Some c =
