@@ -41,6 +41,11 @@ integer v = integer_at (operand v)
 abbrev pub in_range : ℤ → Result Value Trouble
 in_range z = if is_in_range z then Ok (Int z) else Err out_of_range
 
+-- the integer that a computation gave, where it did
+abbrev pub value_or_overflow : Option ℤ → Result Value Trouble
+value_or_overflow None = Err out_of_range
+value_or_overflow (Some z) = Ok (Int z)
+
 abbrev pub by_divisor : ℤ → Result Value Trouble → Result Value Trouble
 by_divisor (pos zero) answer = Err division_by_zero
 by_divisor (pos (suc d)) answer = answer
