@@ -1,12 +1,12 @@
 -- The tables past their last rows.
-use Rattle.std.proofs.Common.{◌≡◌, ◌≢◌, ℕ, ◌<◌, ◌≤◌, ◌++◌, min, take, map, List, [], ◌∷◌, length, Option, Some, None, zero, suc, refl, arith, ap}
+use Rattle.std.proofs.Common.{◌≡◌, ◌≢◌, ℕ, ◌<◌, ◌≤◌, ◌++◌, ◌+◌, min, take, drop, get_or, map, append-nil, append_assoc, ◌∙◌, add-one, drop-cons, length-drop, sym, List, [], ◌∷◌, length, Option, Some, None, zero, suc, refl, arith, ap}
 use Rattle.std.specs.Prelude.{slice_get, codes, ℤ, pos, negsuc}
 use Rattle.std.specs.Fmt.{signed_decimal}
 use Rattle.std.proofs.lemmas.List.{take_all}
 use Rattle.std.proofs.lemmas.Bool.Decides.{nat_tests}
 use Rattle.mon_values.specs.declared.value.Value.{Value}
 use Rattle.mon_values.specs.declared.fault.Trouble.{Trouble}
-use Rattle.mon_values.specs.Printing.{Printed, step_repr, behind_first, later_items}
+use Rattle.mon_values.specs.Printing.{Printed, step_repr, joined}
 use Rattle.mon_values.specs.Classes.{classes, class_or, class_name, parent_of, builtin_names, builtin_name, name_or}
 use Rattle.mon_values.specs.Troubles.{rows, row_or, trouble, row_of, Fixed}
 
@@ -35,6 +35,42 @@ pub step_shown : (step : ℤ) → step ≢ pos 1 → step_repr step ≡ codes ",
 step_shown (pos n) h = grind (arith, nat_tests)
 step_shown (negsuc n) h = refl
 
-pub behind_some : (f : Value → Printed) (items : List Value) → 0 < length items → behind_first (map f items) ≡ later_items (map f items)
-behind_some f (x ∷ xs) h = refl
-behind_some f [] h = absurd (omega arith)
+-- the items of a tuple from a place on, where there is a later one, and where there is none
+joined_two : (f : Value → Printed) (x : Value) (xs : List Value) → 0 < length xs → joined (map f (x ∷ xs)) ≡ (f x).repr ++ codes ", " ++ joined (map f xs)
+joined_two f x (y ∷ xs) h = refl
+joined_two f x [] h = absurd (omega arith)
+
+joined_one : (f : Value → Printed) (x : Value) (xs : List Value) → length xs ≡ 0 → joined (map f (x ∷ xs)) ≡ (f x).repr ++ joined (map f xs)
+joined_one f x [] h = sym (append-nil (f x).repr)
+joined_one f x (y ∷ xs) h = absurd (omega arith)
+
+pub joined_more : (f : Value → Printed) (items : List Value) (i : ℕ) (x : Value) → i + 1 < length items → x ≡ get_or items i x → joined (map f (drop i items)) ≡ (f x).repr ++ codes ", " ++ joined (map f (drop (i + 1) items))
+joined_more f items i x h e =
+    let within : i < length items = omega arith in
+    let n : 0 < length (drop (suc i) items) = omega (arith, length-drop (suc i) items) in
+    rw (add-one, drop-cons items i x, ← e) (joined_two f x (drop (suc i) items) n)
+
+pub joined_last : (f : Value → Printed) (items : List Value) (i : ℕ) (x : Value) → i < length items → length items ≤ i + 1 → x ≡ get_or items i x → joined (map f (drop i items)) ≡ (f x).repr ++ joined (map f (drop (i + 1) items))
+joined_last f items i x h k e =
+    let n : length (drop (suc i) items) ≡ 0 = omega (arith, length-drop (suc i) items) in
+    rw (add-one, drop-cons items i x, ← e) (joined_one f x (drop (suc i) items) n)
+
+regroup : (a b c d : List ℕ) → ((a ++ b) ++ c) ++ d ≡ a ++ ((b ++ c) ++ d)
+regroup a b c d = simp append_assoc
+
+-- a turn of the loop over the items
+pub items_more : (f : Value → Printed) (items : List Value) (i : ℕ) (x : Value) (whole out now later : List ℕ) → out ++ joined (map f (drop i items)) ≡ whole → i + 1 < length items → x ≡ get_or items i x
+    → now ≡ out ++ (f x).repr → later ≡ now ++ codes ", " → later ++ joined (map f (drop (i + 1) items)) ≡ whole
+items_more f items i x whole out now later inv h e p q =
+    ap (λ l. l ++ joined (map f (drop (i + 1) items))) (q ∙ ap (λ l. l ++ codes ", ") p)
+    ∙ regroup out (f x).repr (codes ", ") (joined (map f (drop (i + 1) items)))
+    ∙ ap (λ l. out ++ l) (sym (joined_more f items i x h e))
+    ∙ inv
+
+pub items_last : (f : Value → Printed) (items : List Value) (i : ℕ) (x : Value) (whole out now : List ℕ) → out ++ joined (map f (drop i items)) ≡ whole → i < length items → length items ≤ i + 1 → x ≡ get_or items i x
+    → now ≡ out ++ (f x).repr → now ++ joined (map f (drop (i + 1) items)) ≡ whole
+items_last f items i x whole out now inv h k e p =
+    ap (λ l. l ++ joined (map f (drop (i + 1) items))) p
+    ∙ append_assoc out (f x).repr (joined (map f (drop (i + 1) items)))
+    ∙ ap (λ l. out ++ l) (sym (joined_last f items i x h k e))
+    ∙ inv

@@ -1,5 +1,5 @@
 -- How values print.
-use Rattle.std.specs.Prelude.{ℕ, ◌+◌, ◌/◌, ◌%◌, ◌==◌, nat_lt, List, [], ◌∷◌, ◌++◌, Option, Some, None, Bool, true, false, ◌&&◌, ◌||◌, not, ℤ, pos, negsuc, codes, if◌then◌else◌}
+use Rattle.std.specs.Prelude.{ℕ, ◌+◌, ◌/◌, ◌%◌, ◌==◌, nat_lt, length, List, [], ◌∷◌, ◌++◌, Option, Some, None, Bool, true, false, ◌&&◌, ◌||◌, not, ℤ, pos, negsuc, codes, if◌then◌else◌}
 use Rattle.std.specs.Fmt.{decimal, signed_decimal}
 use Rattle.std.specs.List.{flat_map, list_any}
 use Rattle.mon_values.specs.declared.value.Value.{Value}
@@ -41,18 +41,18 @@ pub record Printed : Type 0 where
 abbrev pub alike : List ℕ → Printed
 alike chars = record { repr = chars; text = chars }
 
-abbrev pub later_items : List Printed → List ℕ
-later_items [] = []
-later_items (p ∷ ps) = codes ", " ++ p.repr ++ later_items ps
+-- the items with ", " between them
+abbrev pub joined : List Printed → List ℕ
+joined [] = []
+joined (p ∷ []) = p.repr
+joined (p ∷ q ∷ ps) = p.repr ++ codes ", " ++ joined (q ∷ ps)
 
--- what stands behind the first item of a tuple: a comma where it is the only one
-abbrev pub behind_first : List Printed → List ℕ
-behind_first [] = codes ","
-behind_first (p ∷ ps) = later_items (p ∷ ps)
+-- a lone item has a comma behind it
+abbrev pub tuple_end : ℕ → List ℕ
+tuple_end count = if count == 1 then codes ",)" else codes ")"
 
 abbrev pub tuple_repr : List Printed → List ℕ
-tuple_repr [] = codes "()"
-tuple_repr (p ∷ ps) = codes "(" ++ p.repr ++ behind_first ps ++ codes ")"
+tuple_repr items = codes "(" ++ joined items ++ tuple_end (length items)
 
 -- the step where it is not 1
 abbrev pub step_repr : ℤ → List ℕ

@@ -164,35 +164,25 @@ fn write_iterator(out: &mut Text, number: u32) -> Result<(), AllocError>
     out.append_ascii(">")
 }
 
-/// What stands behind the first item of a tuple.
+/// The items of a tuple.
 #[cycle(repr)]
-#[tactic(auto, using(crate::proofs::Tables::behind_some))]
-fn write_behind_first(out: &mut Text, items: &[Value], names: &[Text]) -> Result<(), AllocError>
-    ensures { OnOk result (out.new ≡ out.old ++ spec.behind_first (map (spec.printed names.now) items.now)) }
+fn write_items(out: &mut Text, items: &[Value], names: &[Text]) -> Result<(), AllocError>
+    ensures { OnOk result (out.new ≡ out.old ++ spec.joined (map (spec.printed names.now) items.now)) }
 {
-    if items.is_empty() {
-        return out.append_ascii(",");
-    }
-    for item in items {
-        out.append_ascii(", ")?;
+    for (i, item) in items.iter().enumerate() {
         item.write_repr(out, names)?;
+        if i + 1 < items.len() {
+            out.append_ascii(", ")?;
+        }
     }
     Ok(())
 }
 
-#[cycle(repr)]
-fn write_tuple(out: &mut Text, items: &[Value], names: &[Text]) -> Result<(), AllocError>
-    ensures { OnOk result (out.new ≡ out.old ++ spec.tuple_repr (map (spec.printed names.now) items.now)) }
+/// The end of a tuple of so many items.
+fn write_tuple_end(out: &mut Text, count: usize) -> Result<(), AllocError>
+    ensures { OnOk result (out.new ≡ out.old ++ spec.tuple_end count) }
 {
-    match items.split_first() {
-        None => out.append_ascii("()"),
-        Some((first, rest)) => {
-            out.append_ascii("(")?;
-            first.write_repr(out, names)?;
-            write_behind_first(out, rest, names)?;
-            out.append_ascii(")")
-        }
-    }
+    out.append_ascii(if count == 1 { ",)" } else { ")" })
 }
 
 impl Value {
@@ -209,7 +199,11 @@ impl Value {
             Value::Bool(false) => out.append_ascii("False"),
             Value::Int(n) => write_signed(out, *n),
             Value::Text(text) => write_text(out, text.chars()),
-            Value::Tuple(items) => write_tuple(out, items.as_slice(), names),
+            Value::Tuple(items) => {
+                out.append_ascii("(")?;
+                write_items(out, items.as_slice(), names)?;
+                write_tuple_end(out, items.len())
+            }
             Value::Function(k) => write_function(out, names, *k),
             Value::Builtin(k) => write_builtin(out, *k),
             Value::ExcClass(k) => write_class(out, *k),

@@ -49,12 +49,11 @@ fn row_of(trouble: Trouble) -> Row
         23 => Row::Fixed(11, "generator ignored GeneratorExit"),
         24 => Row::Named(9, "' is not defined"),
         25 => Row::Named(10, "' is not bound"),
-        _ => Row::Fixed(0, ""),
+        26..=u8::MAX => Row::Fixed(0, ""),
     }
 }
 
 /// A name, cut at 40 characters.
-#[tactic(auto, using(crate::proofs::Tables::cut))]
 fn cut_name(name: &[char]) -> &[char]
     ensures { result.now ≡ take 40 name.now }
 {
