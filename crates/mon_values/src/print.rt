@@ -241,3 +241,26 @@ pub fn repr(alloc: Global, v: &Value, names: &[Text]) -> Result<Text, AllocError
     v.write_repr(&mut out, names)?;
     Ok(out)
 }
+
+/// The `str` of a value: a text itself, that of an exception's argument, else its `repr`, with `names` as there.
+#[cycle(text_of)]
+pub fn text_of(alloc: Global, v: &Value, names: &[Text]) -> Result<Text, AllocError>
+    ensures { IfOk result (λ text. text ≡ spec.str_of names.now v.now) }
+{
+    match v {
+        Value::Text(text) => text.copy(alloc),
+        Value::Exc(exc) => exc_text_of(alloc, exc, names),
+        _ => repr(alloc, v, names),
+    }
+}
+
+/// The `str` of an exception: that of its argument, or the empty text.
+#[cycle(text_of)]
+pub fn exc_text_of(alloc: Global, exc: &Exc, names: &[Text]) -> Result<Text, AllocError>
+    ensures { IfOk result (λ text. text ≡ spec.exc_str_of names.now exc.now) }
+{
+    match &exc.arg {
+        Some(arg) => text_of(alloc, arg.get(), names),
+        None => Ok(Text::new(alloc)),
+    }
+}
