@@ -44,3 +44,6 @@ greatest_suc f (suc n) xs = omega (arith, greatest_map_append f xs (repeat (suc 
 pub greatest_repeat : {A : Type 0} (f : A → ℕ) (n : ℕ) (xs : List A) → 0 < n → greatest (map f (repeat n xs)) ≡ greatest (map f xs)
 greatest_repeat f zero xs h = absurd (omega arith)
 greatest_repeat f (suc n) xs h = greatest_suc f n xs
+
+pub sum_append : {A : Type 0} (f : A → ℕ) (xs ys : List A) → sum (map f (xs ++ ys)) ≡ sum (map f xs) + sum (map f ys)
+sum_append f xs ys = sum-map f (xs ++ ys) ∙ sum_by-append f xs ys ∙ omega (arith, sum-map f xs, sum-map f ys)

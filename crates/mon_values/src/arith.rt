@@ -38,18 +38,19 @@ fn in_range(answer: Option<i64>) -> Result<Value, Trouble>
 }
 
 /// `a // b`, rounded down, where b is neither 0 nor -1.
-#[tactic(auto, using(crate::proofs::Arithmetics::floor_above, crate::proofs::Arithmetics::floor_whole, crate::proofs::Arithmetics::floor_part))]
 fn floor_quotient(a: i64, b: i64) -> i64
     requires nonzero { b ≢ pos 0 }
     requires no_overflow { b ≢ negsuc 0 }
     ensures { result ≡ integers.floor_div a b }
 {
     let quotient = a.div_euclid(b);
-    if b > 0 || a.rem_euclid(b) == 0 {
-        quotient
-    } else {
-        quotient - 1
+    if b > 0 {
+        return quotient;
     }
+    if a.rem_euclid(b) == 0 {
+        return quotient;
+    }
+    quotient - 1
 }
 
 /// `a // b`, rounded down; none where it leaves 64 bits.
@@ -65,7 +66,6 @@ fn floor_div(a: i64, b: i64) -> Option<i64>
 }
 
 /// `a % b`, with the sign of b.
-#[tactic(auto, using(crate::proofs::Arithmetics::mod_above, crate::proofs::Arithmetics::mod_whole, crate::proofs::Arithmetics::mod_part))]
 fn floor_mod(a: i64, b: i64) -> i64
     requires { b ≢ pos 0 }
     ensures { result ≡ integers.floor_mod a b }
@@ -74,11 +74,13 @@ fn floor_mod(a: i64, b: i64) -> i64
         return 0;
     }
     let remainder = a.rem_euclid(b);
-    if b > 0 || remainder == 0 {
-        remainder
-    } else {
-        remainder + b
+    if b > 0 {
+        return remainder;
     }
+    if remainder == 0 {
+        return 0;
+    }
+    remainder + b
 }
 
 /// What an operator gives of two integers.
@@ -137,17 +139,19 @@ fn join_texts(alloc: Global, a: &Text, b: &Text) -> Result<Value, ArithFault>
 }
 
 /// Two tuples in a row.
-#[tactic(auto, using(crate::proofs::Weighing::greatest_map_append))]
 fn join_tuples(alloc: Global, a: &[Value], b: &[Value]) -> Result<Value, ArithFault>
     ensures { AnswersArith result (weights.made (the_tuple (a.now ++ b.now))) }
 {
     let Some(left) = spend_items(a, MAX_WEIGHT - 1) else {
         return Err(ArithFault::Trouble(Trouble::TOO_LARGE));
     };
-    if spend_items(b, left).is_none() {
+    let Some(_) = spend_items(b, left) else {
         return Err(ArithFault::Trouble(Trouble::TOO_LARGE));
+    };
+    if !all_nest_at_most(a, MAX_DEPTH - 1) {
+        return Err(ArithFault::Trouble(Trouble::NESTED_TOO_DEEPLY));
     }
-    if !(all_nest_at_most(a, MAX_DEPTH - 1) && all_nest_at_most(b, MAX_DEPTH - 1)) {
+    if !all_nest_at_most(b, MAX_DEPTH - 1) {
         return Err(ArithFault::Trouble(Trouble::NESTED_TOO_DEEPLY));
     }
     let mut items = copy_items(alloc, a)?;
@@ -173,7 +177,6 @@ fn product_fits(count: u64, each: u64, limit: u64) -> bool
 }
 
 /// A text so many times in a row.
-#[tactic(auto, using(crate::proofs::Weighing::length_repeat, crate::proofs::Weighing::repeat_none))]
 fn repeat_text(alloc: Global, text: &Text, count: u64) -> Result<Value, ArithFault>
     ensures { AnswersArith result (weights.made (the_text (repeat count text.now))) }
 {
@@ -198,11 +201,13 @@ fn copies_of_text(alloc: Global, text: &Text, count: u64) -> Result<Text, AllocE
 }
 
 /// The items of a tuple so many times in a row.
-#[tactic(auto, using(crate::proofs::Weighing::sum_repeat, crate::proofs::Weighing::greatest_repeat, crate::proofs::Weighing::repeat_none, crate::proofs::Weighing::product_above))]
 fn repeat_tuple(alloc: Global, items: &[Value], count: u64) -> Result<Value, ArithFault>
     ensures { AnswersArith result (weights.made (the_tuple (repeat count items.now))) }
 {
-    if count == 0 || items.is_empty() {
+    if count == 0 {
+        return Ok(Value::Tuple(Items::new(alloc)));
+    }
+    if items.is_empty() {
         return Ok(Value::Tuple(Items::new(alloc)));
     }
     let Some(left) = spend_items(items, MAX_WEIGHT - 1) else {
