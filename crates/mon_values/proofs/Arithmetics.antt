@@ -5,7 +5,7 @@ use Rattle.std.specs.Int.{int_div_euclid, int_rem_euclid}
 use Rattle.std.proofs.lemmas.Bool.{cases_eq}
 use Rattle.std.proofs.lemmas.Int.{ints}
 use Rattle.std.proofs.lemmas.Nat.{div-add-mod', mod_below, div-mul-add, mod-mul-add}
-use Rattle.std.proofs.Math.Nat.{suc-mul}
+use Rattle.std.proofs.Math.Nat.{suc-mul, mul-suc}
 use Rattle.std.specs.Option.{SomeIff}
 use Rattle.std.proofs.lemmas.Bool.Decides.{nat_tests}
 use Rattle.mon_values.specs.Integers.{is_in_range, floor_div, floor_mod}
@@ -88,3 +88,9 @@ mod_part (negsuc m) (negsuc d) h r =
     elim (next_quotient m d) [
       Whole a e q ↦ (let z : suc d - 1 - m % suc d ≡ 0 = omega (arith, e) in absurd (r (ap pos z)))
     | Part a s q ↦ omega (arith, ints, div-add-mod' (suc m) (suc d), a, s) ]
+
+-- by a negative divisor no quotient is the least integer
+pub quotient_above : (a b : ℤ) → FitsSigned w64 a → b <ℤ pos 0 → negsuc 9223372036854775807 <ℤ int_div_euclid a b
+quotient_above a (pos d) f h = absurd (omega (arith, ints))
+quotient_above (pos n) (negsuc d) f h = omega (arith, ints, mul-suc (n / suc d) d, div-add-mod' n (suc d))
+quotient_above (negsuc m) (negsuc d) f h = omega (arith, ints)

@@ -4,7 +4,10 @@
 pub mod arith;
 pub mod class;
 pub mod compare;
+pub mod contain;
+pub mod exc;
 pub mod fault;
+pub mod index;
 pub mod operator;
 pub mod print;
 pub mod range;
