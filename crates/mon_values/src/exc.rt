@@ -12,7 +12,7 @@ use std::alloc::Global;
 /// An exception of a class with a copy of an argument, where it keeps the limits of weight and depth.
 #[tactic(auto, using(crate::proofs::Making::heavy, crate::proofs::Making::deep, crate::proofs::Making::within))]
 pub fn make_exc(alloc: Global, class: u8, arg: Option<&Value>) -> Result<Exc, ExcFault>
-    ensures { AnswersExc result (made_exc (exc_of class (option_copied arg))) }
+    ensures { AnswersExc result (made_exc (exc_of class (option_copied arg.entry))) }
 {
     match arg {
         None => Ok(Exc { class, arg: None }),

@@ -62,7 +62,7 @@ fn index_tuple(alloc: Global, items: &[Value], at: &Value) -> Result<Value, Inde
     }
 }
 
-#[tactic(auto, using(crate::proofs::Places::place_within))]
+#[tactic(auto, using(crate::proofs::Places::place_below))]
 fn index_range(start: i64, stop: i64, step: i64, at: &Value) -> Result<Value, IndexFault>
     ensures { AnswersIndex result (spec.range_item_at start stop step (arithmetic.integer at.now)) }
 {
