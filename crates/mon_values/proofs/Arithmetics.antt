@@ -33,13 +33,14 @@ next_quotient m d =
     let split : m / suc d * suc d + m % suc d ≡ m = div-add-mod' m (suc d) in
     let below : m % suc d < suc d = mod_below m (suc d) (omega arith) in
     elim (cases_eq (m % suc d) d) [
-      inl e ↦
-        let all : suc m ≡ (m / suc d + 1) * suc d + 0 = omega (arith, suc-mul (m / suc d) (suc d)) in
-        Whole (ap (λ n. n % suc d) all ∙ mod-mul-add (m / suc d + 1) (suc d) 0 (omega arith)) e (ap (λ n. n / suc d) all ∙ div-mul-add (m / suc d + 1) (suc d) 0 (omega arith))
-    | inr n ↦
-        let small : m % suc d < d = omega arith in
-        let all : suc m ≡ m / suc d * suc d + (m % suc d + 1) = omega arith in
-        Part (ap (λ n. n % suc d) all ∙ mod-mul-add (m / suc d) (suc d) (m % suc d + 1) (omega arith)) small (ap (λ n. n / suc d) all ∙ div-mul-add (m / suc d) (suc d) (m % suc d + 1) (omega arith)) ]
+      | inl e ↦
+          let all : suc m ≡ (m / suc d + 1) * suc d + 0 = omega (arith, suc-mul (m / suc d) (suc d)) in
+          Whole (ap (λ n. n % suc d) all ∙ mod-mul-add (m / suc d + 1) (suc d) 0 (omega arith)) e (ap (λ n. n / suc d) all ∙ div-mul-add (m / suc d + 1) (suc d) 0 (omega arith))
+      | inr n ↦
+          let small : m % suc d < d = omega arith in
+          let all : suc m ≡ m / suc d * suc d + (m % suc d + 1) = omega arith in
+          Part (ap (λ n. n % suc d) all ∙ mod-mul-add (m / suc d) (suc d) (m % suc d + 1) (omega arith)) small (ap (λ n. n / suc d) all ∙ div-mul-add (m / suc d) (suc d) (m % suc d + 1) (omega arith))
+    ]
 
 zero_over : (d : ℕ) → 0 / suc d ≡ 0
 zero_over d = let all : 0 ≡ 0 * suc d + 0 = omega arith in ap (λ n. n / suc d) all ∙ div-mul-add 0 (suc d) 0 (omega arith)
@@ -86,8 +87,9 @@ mod_part (pos (suc m)) (negsuc d) h r =
     elim (next_quotient m d) [ Whole a e q ↦ absurd (r (ap pos a)) | Part a s q ↦ omega (arith, ints, div-add-mod' m (suc d), suc-mul (m / suc d) (suc d), a) ]
 mod_part (negsuc m) (negsuc d) h r =
     elim (next_quotient m d) [
-      Whole a e q ↦ (let z : suc d - 1 - m % suc d ≡ 0 = omega (arith, e) in absurd (r (ap pos z)))
-    | Part a s q ↦ omega (arith, ints, div-add-mod' (suc m) (suc d), a, s) ]
+      | Whole a e q ↦ (let z : suc d - 1 - m % suc d ≡ 0 = omega (arith, e) in absurd (r (ap pos z)))
+      | Part a s q ↦ omega (arith, ints, div-add-mod' (suc m) (suc d), a, s)
+    ]
 
 -- by a negative divisor no quotient is the least integer
 pub quotient_above : (a b : ℤ) → FitsSigned w64 a → b <ℤ pos 0 → negsuc 9223372036854775807 <ℤ int_div_euclid a b

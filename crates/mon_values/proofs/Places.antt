@@ -21,14 +21,15 @@ steps_below : (place span k : ℕ) → place < div_ceil span (suc k) → place *
 steps_below place span k h =
     let split : span / suc k * suc k + span % suc k ≡ span = div-add-mod' span (suc k) in
     elim (cases_eq (span % suc k) 0) [
-      inl e ↦
-        let small : suc place ≤ span / suc k = omega arith in
-        let most : suc place * suc k ≤ span / suc k * suc k = mul-le (suc place) (suc k) (span / suc k) (suc k) small (omega arith) in
-        omega (arith, suc-mul place (suc k))
-    | inr n ↦
-        let small : place ≤ span / suc k = omega arith in
-        let most : place * suc k ≤ span / suc k * suc k = mul-le place (suc k) (span / suc k) (suc k) small (omega arith) in
-        omega arith ]
+      | inl e ↦
+          let small : suc place ≤ span / suc k = omega arith in
+          let most : suc place * suc k ≤ span / suc k * suc k = mul-le (suc place) (suc k) (span / suc k) (suc k) small (omega arith) in
+          omega (arith, suc-mul place (suc k))
+      | inr n ↦
+          let small : place ≤ span / suc k = omega arith in
+          let most : place * suc k ≤ span / suc k * suc k = mul-le place (suc k) (span / suc k) (suc k) small (omega arith) in
+          omega arith
+    ]
 
 fits_between : (z low high : ℤ) → FitsSigned w64 low → FitsSigned w64 high → low ≤ℤ z → z ≤ℤ high → FitsSigned w64 z
 fits_between (pos n) low (pos m) f g h k = record { sfits = omega (arith, ints) }
@@ -61,7 +62,7 @@ item_is start stop step cast place f g s fits small h is =
     let high : product < 2 ^ 64 = mod_below (cast_unsigned w64 cast * cast_unsigned w64 step) (2 ^ 64) (omega arith) in
     let back : cast_signed w64 (cast_unsigned w64 start) ≡ start = to_z-of_z w64 start f in
     let wrapped : cast_signed w64 product ≡ int_wrap w64 (pos place *ℤ step) =
-      wrapping_mul_is w64 cast step fits s ∙ ap (λ z. int_wrap w64 (z *ℤ step)) (is ∙ sym (wrap_pos place small)) ∙ int_wrap-mul_left w64 (pos place) step in
+    wrapping_mul_is w64 cast step fits s ∙ ap (λ z. int_wrap w64 (z *ℤ step)) (is ∙ sym (wrap_pos place small)) ∙ int_wrap-mul_left w64 (pos place) step in
     wrapping_add-bits w64 (cast_unsigned w64 start) product low high
     ∙ ap (λ z. int_wrap w64 (z +ℤ cast_signed w64 product)) back
     ∙ ap (λ z. int_wrap w64 (start +ℤ z)) wrapped

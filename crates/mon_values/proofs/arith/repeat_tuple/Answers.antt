@@ -35,5 +35,5 @@ returns-then-not-all_nest_at_most c =
 pub returns : goal.returns
 returns c =
     making.given
-      (making.items_repeated c.args.count c.args.items.now c.spend_items.result c.in-Some.left c.product_fits.result c.all_nest_at_most.result (omega arith) c.spend_items.ensures c.in-Some.is c.product_fits.ensures c.if-not-product_fits.false c.all_nest_at_most.ensures c.if-not-all_nest_at_most.false)
-      (ap Tuple c.in_ok-copies_of_items.ensures)
+    (making.items_repeated c.args.count c.args.items.now c.spend_items.result c.in-Some.left c.product_fits.result c.all_nest_at_most.result (omega arith) c.spend_items.ensures c.in-Some.is c.product_fits.ensures c.if-not-product_fits.false c.all_nest_at_most.ensures c.if-not-all_nest_at_most.false)
+    (ap Tuple c.in_ok-copies_of_items.ensures)
