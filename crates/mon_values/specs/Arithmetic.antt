@@ -41,6 +41,11 @@ integer v = integer_at (operand v)
 abbrev pub in_range : ℤ → Result Value Trouble
 in_range z = if is_in_range z then Ok (Int z) else Err out_of_range
 
+-- the integer that a computation gave, where it did
+abbrev pub value_or_overflow : Option ℤ → Result Value Trouble
+value_or_overflow None = Err out_of_range
+value_or_overflow (Some z) = Ok (Int z)
+
 abbrev pub by_divisor : ℤ → Result Value Trouble → Result Value Trouble
 by_divisor (pos zero) answer = Err division_by_zero
 by_divisor (pos (suc d)) answer = answer
@@ -53,15 +58,26 @@ of_integers Mul a b = in_range (a *ℤ b)
 of_integers FloorDiv a b = by_divisor b (in_range (floor_div a b))
 of_integers Mod a b = by_divisor b (in_range (floor_mod a b))
 
+abbrev pub only_integers : ArithOp → Option ℤ → Option ℤ → Result Value Trouble
+only_integers op (Some a) (Some b) = of_integers op a b
+only_integers op (Some a) None = Err unsupported_operand
+only_integers op None b = Err unsupported_operand
+
+-- a text or a tuple so many times in a row, not at all below 1
+abbrev pub repeated : Operand → ℤ → Result Value Trouble
+repeated (Chars t) n = made (Text (repeat (times n) t))
+repeated (Items items) n = made (Tuple (repeat (times n) items))
+repeated _ n = Err unsupported_operand
+
+-- two texts and two tuples are joined by +, a text or a tuple is repeated by * on either side, all else takes integers
 abbrev pub of_operands : ArithOp → Operand → Operand → Result Value Trouble
-of_operands op (Number a) (Number b) = of_integers op a b
 of_operands Add (Chars a) (Chars b) = made (Text (a ++ b))
 of_operands Add (Items a) (Items b) = made (Tuple (a ++ b))
-of_operands Mul (Chars a) (Number n) = made (Text (repeat (times n) a))
-of_operands Mul (Number n) (Chars b) = made (Text (repeat (times n) b))
-of_operands Mul (Items a) (Number n) = made (Tuple (repeat (times n) a))
-of_operands Mul (Number n) (Items b) = made (Tuple (repeat (times n) b))
-of_operands _ _ _ = Err unsupported_operand
+of_operands Mul (Chars a) (Number n) = repeated (Chars a) n
+of_operands Mul (Items a) (Number n) = repeated (Items a) n
+of_operands Mul (Number n) (Chars b) = repeated (Chars b) n
+of_operands Mul (Number n) (Items b) = repeated (Items b) n
+of_operands op a b = only_integers op (integer_at a) (integer_at b)
 
 abbrev pub arith_of : ArithOp → Value → Value → Result Value Trouble
 arith_of op a b = of_operands op (operand a) (operand b)

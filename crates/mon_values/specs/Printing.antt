@@ -1,5 +1,5 @@
 -- How values print.
-use Rattle.std.specs.Prelude.{ℕ, ◌+◌, ◌/◌, ◌%◌, ◌==◌, nat_lt, List, [], ◌∷◌, ◌++◌, Option, Some, None, Bool, true, false, ◌&&◌, ◌||◌, not, ℤ, pos, negsuc, codes, if◌then◌else◌}
+use Rattle.std.specs.Prelude.{ℕ, ◌+◌, ◌/◌, ◌%◌, ◌==◌, nat_lt, length, List, [], ◌∷◌, ◌++◌, Option, Some, None, Bool, true, false, ◌&&◌, ◌||◌, not, ℤ, pos, negsuc, codes, if◌then◌else◌}
 use Rattle.std.specs.Fmt.{decimal, signed_decimal}
 use Rattle.std.specs.List.{flat_map, list_any}
 use Rattle.mon_values.specs.declared.value.Value.{Value}
@@ -41,20 +41,41 @@ pub record Printed : Type 0 where
 abbrev pub alike : List ℕ → Printed
 alike chars = record { repr = chars; text = chars }
 
-abbrev pub later_items : List Printed → List ℕ
-later_items [] = []
-later_items (p ∷ ps) = codes ", " ++ p.repr ++ later_items ps
+-- the items with ", " between them
+abbrev pub joined : List Printed → List ℕ
+joined [] = []
+joined (p ∷ []) = p.repr
+joined (p ∷ q ∷ ps) = p.repr ++ codes ", " ++ joined (q ∷ ps)
 
--- a tuple of one item has a comma behind it
+-- a lone item has a comma behind it
+abbrev pub tuple_end : ℕ → List ℕ
+tuple_end count = if count == 1 then codes ",)" else codes ")"
+
 abbrev pub tuple_repr : List Printed → List ℕ
-tuple_repr [] = codes "()"
-tuple_repr (p ∷ []) = codes "(" ++ p.repr ++ codes ",)"
-tuple_repr (p ∷ q ∷ ps) = codes "(" ++ p.repr ++ later_items (q ∷ ps) ++ codes ")"
+tuple_repr items = codes "(" ++ joined items ++ tuple_end (length items)
 
 -- the step where it is not 1
 abbrev pub step_repr : ℤ → List ℕ
 step_repr (pos n) = if n == 1 then [] else codes ", " ++ decimal n
 step_repr (negsuc n) = codes ", " ++ signed_decimal (negsuc n)
+
+abbrev pub range_repr : ℤ → ℤ → ℤ → List ℕ
+range_repr start stop step = codes "range(" ++ signed_decimal start ++ codes ", " ++ signed_decimal stop ++ step_repr step ++ codes ")"
+
+abbrev pub function_repr : List (List ℕ) → ℕ → List ℕ
+function_repr names k = codes "<function " ++ name_at names k ++ codes ">"
+
+abbrev pub builtin_repr : ℕ → List ℕ
+builtin_repr k = codes "<built-in " ++ builtin_name k ++ codes ">"
+
+abbrev pub class_repr : ℕ → List ℕ
+class_repr k = codes "<class '" ++ class_name k ++ codes "'>"
+
+abbrev pub generator_repr : ℕ → List ℕ
+generator_repr k = codes "<generator " ++ decimal k ++ codes ">"
+
+abbrev pub iterator_repr : ℕ → List ℕ
+iterator_repr k = codes "<iterator " ++ decimal k ++ codes ">"
 
 abbrev pub bool_repr : Bool → List ℕ
 bool_repr true = codes "True"
@@ -66,13 +87,13 @@ printed_step names (Value-F.Bool b) = alike (bool_repr b)
 printed_step names (Value-F.Int n) = alike (signed_decimal n)
 printed_step names (Value-F.Text text) = record { repr = text_repr text; text = text }
 printed_step names (Value-F.Tuple items) = alike (tuple_repr items)
-printed_step names (Value-F.Function k) = alike (codes "<function " ++ name_at names k ++ codes ">")
-printed_step names (Value-F.Builtin k) = alike (codes "<built-in " ++ builtin_name k ++ codes ">")
-printed_step names (Value-F.ExcClass k) = alike (codes "<class '" ++ class_name k ++ codes "'>")
+printed_step names (Value-F.Function k) = alike (function_repr names k)
+printed_step names (Value-F.Builtin k) = alike (builtin_repr k)
+printed_step names (Value-F.ExcClass k) = alike (class_repr k)
 printed_step names (Value-F.Exc e) = e
-printed_step names (Value-F.Gen k) = alike (codes "<generator " ++ decimal k ++ codes ">")
-printed_step names (Value-F.Iter k) = alike (codes "<iterator " ++ decimal k ++ codes ">")
-printed_step names (Value-F.Range start stop step) = alike (codes "range(" ++ signed_decimal start ++ codes ", " ++ signed_decimal stop ++ step_repr step ++ codes ")")
+printed_step names (Value-F.Gen k) = alike (generator_repr k)
+printed_step names (Value-F.Iter k) = alike (iterator_repr k)
+printed_step names (Value-F.Range start stop step) = alike (range_repr start stop step)
 printed_step names (Value-F.Done e) = alike []
 
 abbrev pub arg_repr : Option Printed → List ℕ

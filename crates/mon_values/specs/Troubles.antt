@@ -5,6 +5,8 @@ use Rattle.mon_values.specs.declared.value.Value.TheOpen.{Exc-F}
 use Rattle.mon_values.specs.declared.value.Value.TheViews.{roll-Exc}
 use Rattle.mon_values.specs.declared.value.Value.{Value, Text}
 use Rattle.mon_values.specs.declared.value.Exc.{Exc}
+use Rattle.mon_values.specs.declared.trouble.Row as declared
+use Rattle.mon_values.specs.declared.trouble.Row.TheVariants as variants
 
 -- an exception of a class with a text as its argument
 abbrev pub exc_with_text : ℕ → List ℕ → Exc
@@ -53,6 +55,11 @@ row_or (Some row) = row
 
 abbrev pub row_of : Trouble → Row
 row_of t = row_or (slice_get rows t.0)
+
+-- a row as the code has it
+abbrev pub row_read : declared.Row → Row
+row_read (variants.Fixed class text) = Fixed class text.now
+row_read (variants.Named class after) = Named class (codes "name '") after.now
 
 -- a name is cut at 40 characters
 abbrev pub row_exc : Row → List ℕ → Exc

@@ -3,6 +3,7 @@ use Rattle.std.specs.Prelude.{ℕ, ◌+◌, ◌-◌, max, List, [], ◌∷◌, s
 use Rattle.mon_values.specs.declared.value.Value.{Value}
 use Rattle.mon_values.specs.declared.value.Value.TheOpen.{Value-F, Exc-F}
 use Rattle.mon_values.specs.declared.value.Value.TheFolds.{fold-Value, fold-Exc}
+use Rattle.mon_values.specs.declared.value.Value.TheViews.{roll-Exc}
 use Rattle.mon_values.specs.declared.value.Exc.{Exc}
 use Rattle.mon_values.specs.declared.fault.Trouble.{Trouble}
 use Rattle.mon_values.specs.Troubles.{too_large, nested_too_deeply}
@@ -66,3 +67,6 @@ made_exc e = within_limits (exc_weight e) (exc_depth e) e
 -- what is left of a budget after a weight, if it suffices
 abbrev pub left_of : ℕ → ℕ → Option ℕ
 left_of budget w = if nat_le w budget then Some (budget - w) else None
+
+abbrev pub exc_of : ℕ → Option Value → Exc
+exc_of class arg = roll-Exc (record { class = class; arg = arg })

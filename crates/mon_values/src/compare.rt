@@ -73,7 +73,9 @@ impl Value {
             (Value::Gen(a), Value::Gen(b)) => Verdict::same(a == b),
             (Value::Iter(a), Value::Iter(b)) => Verdict::same(a == b),
             (Value::Exc(a), Value::Exc(b)) => a.verdict(b),
-            (Value::Range(a, b, c), Value::Range(d, e, f)) => Verdict::same(same_ranges(*a, *b, *c, *d, *e, *f)),
+            (Value::Range(a, b, c), Value::Range(d, e, f)) => Verdict::same(same_ranges(
+                *a, *b, *c, *d, *e, *f,
+            )),
             (Value::Done(a), Value::Done(b)) => done_verdict(a, b),
             _ => Verdict::Unequal,
         }
@@ -90,7 +92,10 @@ impl Value {
     pub fn has_order(&self) -> bool
         ensures { result ≡ spec.has_order self.now }
     {
-        matches!(self, Value::Bool(_) | Value::Int(_) | Value::Text(_) | Value::Tuple(_))
+        matches!(
+            self,
+            Value::Bool(_) | Value::Int(_) | Value::Text(_) | Value::Tuple(_)
+        )
     }
 }
 
@@ -174,12 +179,24 @@ fn same_integer(a: i64, b: i64) -> bool
 }
 
 /// Whether two ranges have the same integers in the same order.
-fn same_ranges(start: i64, stop: i64, step: i64, other_start: i64, other_stop: i64, other_step: i64) -> bool
+fn same_ranges(
+    start: i64,
+    stop: i64,
+    step: i64,
+    other_start: i64,
+    other_stop: i64,
+    other_step: i64,
+) -> bool
     ensures { result ≡ spec.same_ranges start stop step other_start other_stop other_step }
 {
     let count = range_len(start, stop, step);
     let other_count = range_len(other_start, other_stop, other_step);
-    same_items(count, other_count, same_integer(start, other_start), same_integer(step, other_step))
+    same_items(
+        count,
+        other_count,
+        same_integer(start, other_start),
+        same_integer(step, other_step),
+    )
 }
 
 /// Whether two ranges of so many integers are the same, where it is known whether their starts and steps are.

@@ -35,3 +35,11 @@ pub fn in_range(start: i64, stop: i64, step: i64, z: i64) -> bool
     }
     z.abs_diff(start) % step.unsigned_abs() == 0
 }
+
+/// The integer at a place of a range, from 0.
+pub fn range_item(start: i64, stop: i64, step: i64, place: u64) -> i64
+    requires { place < spec.range_length start stop step }
+    ensures { result ≡ spec.range_item start step place }
+{
+    start.wrapping_add(place.cast_signed().wrapping_mul(step))
+}

@@ -13,4 +13,4 @@ returns c =
     let e : FitsSigned w64 c.args.other_stop = c.ranges.other_stop in
     let t : FitsSigned w64 c.args.other_step = c.ranges.other_step in
     same_ranges_from c.args.start c.args.stop c.args.step c.args.other_start c.args.other_stop c.args.other_step _ _ _ _ _ c.same_items.ensures
-        (simp to_z-of_z at c.range_len-count.ensures) (simp to_z-of_z at c.range_len-other_count.ensures) (simp to_z-of_z at c.same_integer.ensures) (simp to_z-of_z at c.same_integer-2.ensures)
+    (simp to_z-of_z at c.range_len-count.ensures) (simp to_z-of_z at c.range_len-other_count.ensures) (simp to_z-of_z at c.same_integer.ensures) (simp to_z-of_z at c.same_integer-2.ensures)
