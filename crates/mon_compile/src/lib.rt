@@ -1,5 +1,6 @@
 //! From the text of a module to its program.
 #![tactic(auto)]
 
+mod line;
 pub mod tree;
-pub mod word;
+mod word;
