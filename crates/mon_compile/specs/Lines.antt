@@ -103,15 +103,18 @@ head_of (word ∷ rest) =
     else (if is_text (codes "while") word then while_of rest
     else assign_of word rest)
 
--- the line with this number, indented by so many spaces
-abbrev pub indented : ℕ → Option ℕ → List ℕ → Option Line
-indented number None line = None
-indented number (Some spaces) line =
-    if spaces % 4 == 0 then option_map (λ h. record { number = number; level = spaces / 4; head = h }) (head_of (pieces (drop spaces line))) else None
+-- the statement of this line behind so many spaces: four for each level
+abbrev pub line_at : ℕ → ℕ → List ℕ → Option Line
+line_at number spaces text =
+    if spaces % 4 == 0 then option_map (λ h. record { number = number; level = spaces / 4; head = h }) (head_of (pieces text)) else None
 
--- a statement's line, indented by four spaces for each level
-unfoldable pub line_of : ℕ → List ℕ → Option Line
-line_of number line = indented number (position (λ c. not (c == 32)) line) line
+-- the line behind so many spaces
+abbrev pub line_from : ℕ → ℕ → List ℕ → Option Line
+line_from number spaces [] = None
+line_from number spaces (c ∷ cs) = if c == 32 then line_from number (spaces + 1) cs else line_at number spaces (c ∷ cs)
+
+abbrev pub line_of : ℕ → List ℕ → Option Line
+line_of number line = line_from number 0 line
 
 -- the names behind these: `NAME, ` again and again, and last `NAME):`
 abbrev pub names_from : List (List ℕ) → List (List ℕ) → Option (List (List ℕ))

@@ -2,5 +2,9 @@
 #![tactic(auto)]
 
 mod line;
+mod names;
+mod nest;
+mod stack;
+pub mod text;
 pub mod tree;
 mod word;

@@ -104,26 +104,42 @@ fn names_of(alloc: Global, pieces: &[Text]) -> Result<Option<Items<Text>>, Alloc
     Ok(None)
 }
 
-#[tactic(auto, unfolding(crate::specs::Lines::line_of))]
 /// What the line with this number says, if it is a statement's.
 pub fn line_of(alloc: Global, number: u32, line: &[u8]) -> Result<Option<Line>, AllocError>
     ensures { IfOk result (λ found. found ≡ spec.line_of number line.now) }
 {
-    let Some(spaces) = line.iter().position(|c| *c != b' ') else {
-        return Ok(None);
-    };
+    let mut spaces = 0usize;
+    let mut rest = line;
+    while let Some((c, tail)) = rest.split_first() {
+        if *c != b' ' {
+            return line_at(alloc, number, spaces, rest);
+        }
+        spaces += 1;
+        rest = tail;
+    }
+    Ok(None)
+}
+
+/// The line of the statement that stands behind so many spaces.
+fn line_at(
+    alloc: Global,
+    number: u32,
+    spaces: usize,
+    text: &[u8],
+) -> Result<Option<Line>, AllocError>
+    ensures { IfOk result (λ found. found ≡ spec.line_at number spaces text.now) }
+{
     if spaces % 4 != 0 {
         return Ok(None);
     }
-    let pieces = pieces(alloc, &line[spaces..])?;
-    let Some(head) = head_of(alloc, pieces.as_slice())? else {
-        return Ok(None);
-    };
-    Ok(Some(Line {
-        number,
-        level: spaces / 4,
-        head,
-    }))
+    match head_of(alloc, pieces(alloc, text)?.as_slice())? {
+        None => Ok(None),
+        Some(head) => Ok(Some(Line {
+            number,
+            level: spaces / 4,
+            head,
+        })),
+    }
 }
 
 fn head_of(alloc: Global, pieces: &[Text]) -> Result<Option<Head>, AllocError>

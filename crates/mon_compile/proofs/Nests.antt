@@ -1,0 +1,13 @@
+-- How lines make blocks, from the last line on.
+use Rattle.std.proofs.Common.{◌≡◌, ℕ, List, [], ◌∷◌, ◌++◌, Option, Some, None, refl, ap}
+use Rattle.mon_compile.specs.declared.tree.Statement.{Statement}
+use Rattle.mon_compile.specs.declared.line.Line.{Line}
+use Rattle.mon_compile.specs.FirstForm.{blocks_of, with_line}
+
+pub last_line : (behind : Option (List (List Statement))) (lines : List Line) (last : Line) → blocks_of behind (lines ++ last ∷ []) ≡ blocks_of (with_line last behind) lines
+last_line behind [] last = refl
+last_line behind (line ∷ lines) last = ap (λ b. with_line line b) (last_line behind lines last)
+
+pub no_line : (lines : List Line) → blocks_of None lines ≡ None
+no_line [] = refl
+no_line (line ∷ lines) = ap (λ b. with_line line b) (no_line lines)
