@@ -1,2 +1,5 @@
+pub mod Headings
+pub mod LineTotals
 pub mod Named
 pub mod Nests
+pub mod Totals

@@ -1,8 +1,8 @@
 -- How lines make blocks, from the last line on.
-use Rattle.std.proofs.Common.{◌≡◌, ℕ, List, [], ◌∷◌, ◌++◌, Option, Some, None, refl, ap}
+use Rattle.std.proofs.Common.{◌≡◌, ℕ, List, [], ◌∷◌, ◌++◌, length, ◌-◌, ◌<◌, zero, suc, Option, Some, None, refl, ap, arith, ◌∙◌}
 use Rattle.mon_compile.specs.declared.tree.Statement.{Statement}
 use Rattle.mon_compile.specs.declared.line.Line.{Line}
-use Rattle.mon_compile.specs.FirstForm.{blocks_of, with_line}
+use Rattle.mon_compile.specs.FirstForm.{blocks_of, with_line, opened}
 
 pub last_line : (behind : Option (List (List Statement))) (lines : List Line) (last : Line) → blocks_of behind (lines ++ last ∷ []) ≡ blocks_of (with_line last behind) lines
 last_line behind [] last = refl
@@ -11,3 +11,9 @@ last_line behind (line ∷ lines) last = ap (λ b. with_line line b) (last_line 
 pub no_line : (lines : List Line) → blocks_of None lines ≡ None
 no_line [] = refl
 no_line (line ∷ lines) = ap (λ b. with_line line b) (no_line lines)
+
+pub opened_more : (level : ℕ) (blocks : List (List Statement)) → length blocks < level
+    → opened (level - length blocks) blocks ≡ opened (level - length ([] ∷ blocks)) ([] ∷ blocks)
+opened_more level blocks h =
+    let e : level - length blocks ≡ suc (level - suc (length blocks)) = omega arith in
+    ap (λ n. opened n blocks) e

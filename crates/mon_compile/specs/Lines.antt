@@ -116,15 +116,20 @@ line_from number spaces (c ∷ cs) = if c == 32 then line_from number (spaces + 
 abbrev pub line_of : ℕ → List ℕ → Option Line
 line_of number line = line_from number 0 line
 
+abbrev pub names_at_end : List (List ℕ) → List (List ℕ) → Option (List (List ℕ))
+names_at_end names [] = Some names
+names_at_end names (n ∷ more) = None
+
 -- the names behind these: `NAME, ` again and again, and last `NAME):`
 abbrev pub names_from : List (List ℕ) → List (List ℕ) → Option (List (List ℕ))
 names_from names [] = None
 names_from names (n ∷ []) = None
 names_from names (n ∷ a ∷ []) = None
-names_from names (n ∷ a ∷ b ∷ []) =
-    if is_name n && not (has_name names n) && (is_text (codes ")") a && is_text (codes ":") b) then Some (names ++ n ∷ []) else None
-names_from names (n ∷ a ∷ b ∷ more ∷ rest) =
-    if is_name n && not (has_name names n) && (is_text (codes ",") a && is_space b) then names_from (names ++ n ∷ []) (more ∷ rest) else None
+names_from names (n ∷ a ∷ b ∷ rest) =
+    if is_name n && not (has_name names n)
+    then (if is_text (codes ",") a && is_space b then names_from (names ++ n ∷ []) rest
+    else (if is_text (codes ")") a && is_text (codes ":") b then names_at_end (names ++ n ∷ []) rest else None))
+    else None
 
 -- `PARAMS):`, the names being distinct
 abbrev pub parameters_of : List (List ℕ) → Option (List (List ℕ))

@@ -63,6 +63,7 @@ fn heading_in(alloc: Global, pieces: &[Text]) -> Result<Option<Heading>, AllocEr
     }
 }
 
+#[tactic(auto, using(crate::proofs::Headings::not_two))]
 /// What `PARAMS):` names.
 fn parameters_of(alloc: Global, pieces: &[Text]) -> Result<Option<Items<Text>>, AllocError>
     ensures { IfOk result (λ names. names ≡ spec.parameters_of pieces.now) }
@@ -85,18 +86,21 @@ fn names_of(alloc: Global, pieces: &[Text]) -> Result<Option<Items<Text>>, Alloc
 {
     let mut names = Items::new(alloc);
     let mut rest = pieces;
-    while let [name, first, second, tail @ ..] = rest {
+    while let Some((name, behind_name)) = rest.split_first() {
+        let Some((first, behind_first)) = behind_name.split_first() else {
+            return Ok(None);
+        };
+        let Some((second, tail)) = behind_first.split_first() else {
+            return Ok(None);
+        };
         if !is_name(name) || has_name(names.as_slice(), name) {
             return Ok(None);
         }
         names.push(name.copy(alloc)?)?;
-        if tail.is_empty() {
-            if is_word(")", first) && is_word(":", second) {
+        if !(is_word(",", first) && is_space(second)) {
+            if is_word(")", first) && is_word(":", second) && tail.is_empty() {
                 return Ok(Some(names));
             }
-            return Ok(None);
-        }
-        if !is_word(",", first) || !is_space(second) {
             return Ok(None);
         }
         rest = tail;

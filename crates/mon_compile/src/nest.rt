@@ -74,11 +74,12 @@ fn with_simple(
     Ok(Some(blocks))
 }
 
+#[tactic(auto, using(crate::proofs::Nests::opened_more))]
 /// Adds empty blocks inside, until one stands at this level.
 fn open(alloc: Global, level: usize, blocks: &mut Blocks) -> Result<(), AllocError>
     ensures { OnOk result (blocks.new ≡ spec.opened (level - length blocks.old) blocks.old) }
 {
-    while blocks.len() < level {
+    'opening: while blocks.len() < level {
         blocks.push(Stack::new(alloc))?;
     }
     Ok(())
