@@ -1,3 +1,4 @@
+pub mod Functions
 pub mod Headings
 pub mod LineTotals
 pub mod Named

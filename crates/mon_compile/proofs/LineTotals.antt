@@ -3,7 +3,9 @@ use Rattle.std.proofs.Common.{◌≡◌, ℕ, ◌+◌, List, [], ◌∷◌, ◌+
 use Rattle.std.proofs.lemmas.List.{append-nil}
 use Rattle.std.specs.List.{sum}
 use Rattle.mon_compile.specs.declared.tree.Statement.{Statement}
-use Rattle.mon_compile.specs.declared.tree.Statement.TheFolds.{fold-Statement}
+use Rattle.mon_compile.specs.declared.tree.Statement.TheFolds.{fold-Statement, fold-roll-Statement}
+use Rattle.mon_compile.specs.declared.tree.Statement.TheVariants as statement
+use Rattle.mon_compile.specs.declared.tree.Statement.TheOpen.{Statement-F}
 use Rattle.mon_compile.specs.declared.line.Head.{Head}
 use Rattle.mon_compile.specs.declared.line.Line.{Line}
 use Rattle.mon_compile.specs.Sound.{reads, reads_step, targets, targets_step, statements, statements_step, joined}
@@ -18,14 +20,14 @@ read_total = record {
   one = fold-Statement (List (List ℕ)) reads_step;
   all = reads;
   own = head_reads;
-  assoc = λ a b c. append_assoc;
+  assoc = append_assoc;
   left = λ a. refl;
   right = λ a. append-nil a;
   nil = refl;
   cons = λ s block. refl;
-  assign = λ n name x. refl;
-  gives = λ n x. refl;
-  loop = λ n c body. refl;
+  assign = λ n name x. ap (fold-Statement (List (List ℕ)) reads_step) (sym (statement.rolls-Assign n name x)) ∙ fold-roll-Statement (List (List ℕ)) reads_step (Statement-F.Assign n name x);
+  gives = λ n x. ap (fold-Statement (List (List ℕ)) reads_step) (sym (statement.rolls-Return n x)) ∙ fold-roll-Statement (List (List ℕ)) reads_step (Statement-F.Return n x);
+  loop = λ n c body. ap (fold-Statement (List (List ℕ)) reads_step) (sym (statement.rolls-While n c body)) ∙ fold-roll-Statement (List (List ℕ)) reads_step (Statement-F.While n c body);
 }
 
 abbrev target_total : Total (List (List ℕ))
@@ -35,14 +37,14 @@ target_total = record {
   one = fold-Statement (List (List ℕ)) targets_step;
   all = targets;
   own = head_targets;
-  assoc = λ a b c. append_assoc;
+  assoc = append_assoc;
   left = λ a. refl;
   right = λ a. append-nil a;
   nil = refl;
   cons = λ s block. refl;
-  assign = λ n name x. refl;
-  gives = λ n x. refl;
-  loop = λ n c body. refl;
+  assign = λ n name x. ap (fold-Statement (List (List ℕ)) targets_step) (sym (statement.rolls-Assign n name x)) ∙ fold-roll-Statement (List (List ℕ)) targets_step (Statement-F.Assign n name x);
+  gives = λ n x. ap (fold-Statement (List (List ℕ)) targets_step) (sym (statement.rolls-Return n x)) ∙ fold-roll-Statement (List (List ℕ)) targets_step (Statement-F.Return n x);
+  loop = λ n c body. ap (fold-Statement (List (List ℕ)) targets_step) (sym (statement.rolls-While n c body)) ∙ fold-roll-Statement (List (List ℕ)) targets_step (Statement-F.While n c body);
 }
 
 abbrev statement_total : Total ℕ
@@ -57,9 +59,9 @@ statement_total = record {
   right = λ a. omega arith;
   nil = refl;
   cons = λ s block. refl;
-  assign = λ n name x. refl;
-  gives = λ n x. refl;
-  loop = λ n c body. refl;
+  assign = λ n name x. ap (fold-Statement ℕ statements_step) (sym (statement.rolls-Assign n name x)) ∙ fold-roll-Statement ℕ statements_step (Statement-F.Assign n name x);
+  gives = λ n x. ap (fold-Statement ℕ statements_step) (sym (statement.rolls-Return n x)) ∙ fold-roll-Statement ℕ statements_step (Statement-F.Return n x);
+  loop = λ n c body. ap (fold-Statement ℕ statements_step) (sym (statement.rolls-While n c body)) ∙ fold-roll-Statement ℕ statements_step (Statement-F.While n c body);
 }
 
 same_reads : (lines : List Line) → of_lines read_total lines ≡ line_reads lines

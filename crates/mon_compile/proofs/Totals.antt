@@ -74,7 +74,7 @@ of_while : {X : Type 0} (t : Total X) (number level : ℕ) (c : Test) (blocks ne
     → of_blocks t new ≡ t.plus (t.own (head.While c)) (of_blocks t blocks)
 of_while t number level c [] new e = absurd cc
 of_while t number level c (body ∷ []) new e = absurd cc
-of_while t number level c (body ∷ block ∷ outer) new e =
+of_while {X = X} t number level c (body ∷ block ∷ outer) new e =
     let s : Statement = statement.While number c body in
     let d = if_some (length outer + 1 == level) ((s ∷ block) ∷ outer) new e in
     let own : X = t.own (head.While c) in

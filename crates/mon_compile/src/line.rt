@@ -1,7 +1,10 @@
 //! What a line says by itself.
 
-ghost use Rattle.std.specs.Prelude.{◌≡◌, ◌∷◌, [], IfOk, map};
+ghost use Rattle.std.specs.Prelude.{◌≡◌, ◌&&◌, not, [], IfOk, codes};
+ghost use Rattle.mon_code.specs.Programs.{is_text};
 ghost use Rattle.mon_compile.specs.Lines as spec;
+ghost use Rattle.mon_compile.specs.Sound as sound;
+ghost use Rattle.mon_compile.specs.Words as words;
 
 use crate::tree::{Atom, Expression, Test};
 use crate::word::{has_name, is_name, is_word, number_of, pieces};
@@ -70,7 +73,7 @@ fn parameters_of(alloc: Global, pieces: &[Text]) -> Result<Option<Items<Text>>, 
 {
     match pieces {
         [bracket, colon] => {
-            if is_word(")", bracket) && is_word(":", colon) {
+            if is_end(bracket, colon) {
                 Ok(Some(Items::new(alloc)))
             } else {
                 Ok(None)
@@ -93,12 +96,12 @@ fn names_of(alloc: Global, pieces: &[Text]) -> Result<Option<Items<Text>>, Alloc
         let Some((second, tail)) = behind_first.split_first() else {
             return Ok(None);
         };
-        if !is_name(name) || has_name(names.as_slice(), name) {
+        if !is_new_name(names.as_slice(), name) {
             return Ok(None);
         }
         names.push(name.copy(alloc)?)?;
-        if !(is_word(",", first) && is_space(second)) {
-            if is_word(")", first) && is_word(":", second) && tail.is_empty() {
+        if !is_comma(first, second) {
+            if is_end(first, second) && tail.is_empty() {
                 return Ok(Some(names));
             }
             return Ok(None);
@@ -106,6 +109,27 @@ fn names_of(alloc: Global, pieces: &[Text]) -> Result<Option<Items<Text>>, Alloc
         rest = tail;
     }
     Ok(None)
+}
+
+/// Whether a piece is a name that none of these is.
+fn is_new_name(names: &[Text], piece: &Text) -> bool
+    ensures { result ≡ (words.is_name piece.now && not (sound.has_name names.now piece.now)) }
+{
+    is_name(piece) && !has_name(names, piece)
+}
+
+/// Whether two pieces are a comma and a space.
+fn is_comma(first: &Text, second: &Text) -> bool
+    ensures { result ≡ (is_text (codes ",") first.now && spec.is_space second.now) }
+{
+    is_word(",", first) && is_space(second)
+}
+
+/// Whether two pieces are the end of a heading, `):`.
+fn is_end(first: &Text, second: &Text) -> bool
+    ensures { result ≡ (is_text (codes ")") first.now && is_text (codes ":") second.now) }
+{
+    is_word(")", first) && is_word(":", second)
 }
 
 /// What the line with this number says, if it is a statement's.
