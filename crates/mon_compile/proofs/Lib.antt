@@ -3,4 +3,6 @@ pub mod Headings
 pub mod LineTotals
 pub mod Named
 pub mod Nests
+pub mod Readings
+pub mod Texts
 pub mod Totals

@@ -1,7 +1,7 @@
 -- The names and the number of the statements of a tree, from its lines.
 use Rattle.std.proofs.Common.{◌≡◌, ℕ, ◌+◌, List, [], ◌∷◌, ◌++◌, length, Option, Some, refl, sym, ap, ◌∙◌, arith, append_assoc, map, suc}
 use Rattle.std.proofs.lemmas.List.{append-nil}
-use Rattle.std.specs.List.{sum}
+use Rattle.std.proofs.lemmas.List.Sums.{sum_by-cons}
 use Rattle.mon_compile.specs.declared.tree.Statement.{Statement}
 use Rattle.mon_compile.specs.declared.tree.Statement.TheFolds.{fold-Statement, fold-roll-Statement}
 use Rattle.mon_compile.specs.declared.tree.Statement.TheVariants as statement
@@ -58,7 +58,7 @@ statement_total = record {
   left = λ a. omega arith;
   right = λ a. omega arith;
   nil = refl;
-  cons = λ s block. refl;
+  cons = λ s block. sum_by-cons (λ x. x) (fold-Statement ℕ statements_step s) (map (fold-Statement ℕ statements_step) block);
   assign = λ n name x. ap (fold-Statement ℕ statements_step) (sym (statement.rolls-Assign n name x)) ∙ fold-roll-Statement ℕ statements_step (Statement-F.Assign n name x);
   gives = λ n x. ap (fold-Statement ℕ statements_step) (sym (statement.rolls-Return n x)) ∙ fold-roll-Statement ℕ statements_step (Statement-F.Return n x);
   loop = λ n c body. ap (fold-Statement ℕ statements_step) (sym (statement.rolls-While n c body)) ∙ fold-roll-Statement ℕ statements_step (Statement-F.While n c body);

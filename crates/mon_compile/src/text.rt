@@ -45,6 +45,7 @@ pub fn read_function(alloc: Global, text: &[u8]) -> Result<Function, TextFault>
     }
 }
 
+#[tactic(auto, using(crate::proofs::Texts::no_line, crate::proofs::Texts::by_first))]
 fn first_form(alloc: Global, text: &[u8]) -> Result<Option<Function>, AllocError>
     ensures { IfOk result (λ found. found ≡ spec.first_form text.now) }
 {
