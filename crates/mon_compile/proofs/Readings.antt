@@ -1,7 +1,7 @@
 -- What is known of a function that was read.
-use Rattle.std.proofs.Common.{◌≡◌, ℕ, ◌+◌, ◌*◌, ◌<◌, ◌≤◌, Bool, true, false, ◌&&◌, ◌||◌, ◌==◌, cond, nat_le, List, [], ◌∷◌, ◌++◌, length, Option, Some, None, refl, sym, ap, ◌∙◌, arith, subst, length-append, inl, inr}
+use Rattle.std.proofs.Common.{◌⊎◌, zero, suc, get_or, ◌≡◌, ℕ, ◌+◌, ◌*◌, ◌<◌, ◌≤◌, Bool, true, false, ◌&&◌, ◌||◌, ◌==◌, cond, nat_le, List, [], ◌∷◌, ◌++◌, length, Option, Some, None, refl, sym, ap, ◌∙◌, arith, subst, length-append, inl, inr}
 use Rattle.std.specs.Option.{option_map}
-use Rattle.std.specs.List.{All, Contains}
+use Rattle.std.specs.List.{Contains}
 use Rattle.mon_code.specs.Programs.{is_text}
 use Rattle.mon_compile.specs.declared.tree.Function.{Function}
 use Rattle.mon_compile.specs.declared.tree.Statement.{Statement}
@@ -183,17 +183,20 @@ either : (a b : Bool) → (a || b) ≡ true → (a ≡ true) ⊎ (b ≡ true)
 either true b e = inl refl
 either false b e = inr e
 
+behind : (m n : List ℕ) (names : List (List ℕ)) → Contains names n → Contains (m ∷ names) n
+behind m n names h = let less : h.0 < length names = h.1 in (suc h.0, omega arith, h.2)
+
 named : (names : List (List ℕ)) (n : List ℕ) → has_name names n ≡ true → Contains names n
 named [] n e = absurd cc
 named (m ∷ names) n e = elim (either (is_text m n) (has_name names n) e) [
-  | inl d ↦ inl (sym (same_text m n d))
-  | inr d ↦ inr (named names n d)
+  | inl d ↦ (0, omega arith, same_text m n d)
+  | inr d ↦ behind m n names (named names n d)
 ]
 
-are_named : (names more : List (List ℕ)) → all_named names more ≡ true → All (Contains names) more
-are_named names [] e = tt
-are_named names (n ∷ more) e =
-    (named names n (left_true (has_name names n) (all_named names more) e), are_named names more (right_true (has_name names n) (all_named names more) e))
+are_named : (names more : List (List ℕ)) → all_named names more ≡ true → (k : ℕ) (d : List ℕ) → k < length more → Contains names (get_or more k d)
+are_named names [] e k d h = absurd (omega arith)
+are_named names (n ∷ more) e zero d h = named names n (left_true (has_name names n) (all_named names more) e)
+are_named names (n ∷ more) e (suc k) d h = are_named names more (right_true (has_name names n) (all_named names more) e) k d (omega arith)
 
 pub is_read_sound : (text : List ℕ) (f : Function) → first_form text ≡ Some f → IsSound f
 is_read_sound text f e =
