@@ -1,5 +1,5 @@
 -- A function from its heading and its lines.
-use Rattle.std.proofs.Common.{◌≡◌, ℕ, ◌<◌, ◌≤◌, Bool, true, false, ◌&&◌, cond, nat_le, List, [], ◌∷◌, length, Option, Some, None, refl, sym, ap, ◌∙◌, arith}
+use Rattle.std.proofs.Common.{◌≡◌, ℕ, ◌<◌, ◌≤◌, Bool, true, false, ◌&&◌, cond, nat_le, List, length, Option, Some, None, refl, ap, ◌∙◌, arith}
 use Rattle.mon_compile.specs.declared.tree.Function.{Function}
 use Rattle.mon_compile.specs.declared.tree.Statement.{Statement}
 use Rattle.mon_compile.specs.declared.line.Heading.{Heading}

@@ -1,6 +1,6 @@
 -- The names of a heading.
-use Rattle.std.proofs.Common.{◌≡◌, ℕ, List, [], ◌∷◌, ◌++◌, length, refl, sym, ap, ◌∙◌, arith, Bool, true, false, not, ◌&&◌, cond, Option, codes}
-use Rattle.mon_compile.specs.Lines.{parameters_of, names_from, names_at_end, is_space}
+use Rattle.std.proofs.Common.{◌≡◌, ℕ, List, [], ◌∷◌, ◌++◌, length, refl, sym, ap, ◌∙◌, true, not, ◌&&◌, codes}
+use Rattle.mon_compile.specs.Lines.{parameters_of, names_from, is_space}
 use Rattle.mon_compile.specs.Words.{is_name}
 use Rattle.mon_compile.specs.Sound.{has_name}
 use Rattle.mon_code.specs.Programs.{is_text}

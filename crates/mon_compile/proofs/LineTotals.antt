@@ -1,14 +1,13 @@
 -- The names and the number of the statements of a tree, from its lines.
-use Rattle.std.proofs.Common.{◌≡◌, ℕ, ◌+◌, List, [], ◌∷◌, ◌++◌, length, Option, Some, refl, sym, ap, ◌∙◌, arith, append_assoc, map, suc}
+use Rattle.std.proofs.Common.{◌≡◌, ℕ, ◌+◌, List, [], ◌∷◌, ◌++◌, length, Some, refl, sym, ap, ◌∙◌, arith, append_assoc, map, suc}
 use Rattle.std.proofs.lemmas.List.{append-nil}
 use Rattle.std.proofs.lemmas.List.Sums.{sum_by-cons}
 use Rattle.mon_compile.specs.declared.tree.Statement.{Statement}
 use Rattle.mon_compile.specs.declared.tree.Statement.TheFolds.{fold-Statement, fold-roll-Statement}
 use Rattle.mon_compile.specs.declared.tree.Statement.TheVariants as statement
 use Rattle.mon_compile.specs.declared.tree.Statement.TheOpen.{Statement-F}
-use Rattle.mon_compile.specs.declared.line.Head.{Head}
 use Rattle.mon_compile.specs.declared.line.Line.{Line}
-use Rattle.mon_compile.specs.Sound.{reads, reads_step, targets, targets_step, statements, statements_step, joined}
+use Rattle.mon_compile.specs.Sound.{reads, reads_step, targets, targets_step, statements, statements_step}
 use Rattle.mon_compile.specs.LineNames.{head_reads, head_targets, line_reads, line_targets}
 use Rattle.mon_compile.specs.FirstForm.{nest}
 use Rattle.mon_compile.proofs.Totals.{Total, of_lines, of_nest}

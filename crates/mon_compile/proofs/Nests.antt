@@ -1,5 +1,5 @@
 -- How lines make blocks, from the last line on.
-use Rattle.std.proofs.Common.{◌≡◌, ℕ, List, [], ◌∷◌, ◌++◌, length, ◌-◌, ◌<◌, zero, suc, Option, Some, None, refl, ap, arith, ◌∙◌}
+use Rattle.std.proofs.Common.{◌≡◌, ℕ, List, [], ◌∷◌, ◌++◌, length, ◌-◌, ◌<◌, suc, Option, None, refl, ap, arith}
 use Rattle.mon_compile.specs.declared.tree.Statement.{Statement}
 use Rattle.mon_compile.specs.declared.line.Line.{Line}
 use Rattle.mon_compile.specs.FirstForm.{blocks_of, with_line, opened}

@@ -1,5 +1,5 @@
 -- What is known of a function that was read.
-use Rattle.std.proofs.Common.{◌⊎◌, zero, suc, get_or, ◌≡◌, ℕ, ◌+◌, ◌*◌, ◌<◌, ◌≤◌, Bool, true, false, ◌&&◌, ◌||◌, ◌==◌, cond, nat_le, List, [], ◌∷◌, ◌++◌, length, Option, Some, None, refl, sym, ap, ◌∙◌, arith, subst, length-append, inl, inr}
+use Rattle.std.proofs.Common.{◌⊎◌, zero, suc, get_or, ◌≡◌, ℕ, ◌+◌, ◌*◌, ◌<◌, ◌≤◌, Bool, true, false, ◌&&◌, ◌||◌, ◌==◌, cond, nat_le, List, [], ◌∷◌, ◌++◌, length, Option, Some, None, refl, sym, ap, ◌∙◌, arith, length-append, inl, inr}
 use Rattle.std.specs.Option.{option_map}
 use Rattle.std.specs.List.{Contains}
 use Rattle.mon_code.specs.Programs.{is_text}
@@ -9,7 +9,7 @@ use Rattle.mon_compile.specs.declared.line.Heading.{Heading}
 use Rattle.mon_compile.specs.declared.line.Line.{Line}
 use Rattle.mon_compile.specs.Sound.{IsSound, reads, locals_of, has_name, statements}
 use Rattle.mon_compile.specs.Lines.{heading_of, line_of}
-use Rattle.mon_compile.specs.FirstForm.{first_form, function_in, headed, nested, with_body, nest, is_sound, all_named, lines_from, at_end, statement_lines, line_before, are_plain}
+use Rattle.mon_compile.specs.FirstForm.{first_form, function_in, headed, with_body, nest, is_sound, all_named, lines_from, at_end, statement_lines, line_before, are_plain}
 use Rattle.mon_compile.proofs.LineTotals.{nest_statements}
 
 in_cond : {A : Type 0} (c : Bool) (o : Option A) (y : A) → cond c o None ≡ Some y → (c ≡ true) × (o ≡ Some y)

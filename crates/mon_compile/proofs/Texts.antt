@@ -5,7 +5,6 @@ use Rattle.mon_compile.specs.declared.line.Heading.{Heading}
 use Rattle.mon_compile.specs.FirstForm.{function_in, headed, at_end}
 use Rattle.mon_compile.specs.Lines.{heading_of}
 use Rattle.mon_compile.specs.LineNames.{lines_in}
-use Rattle.mon_compile.specs.declared.line.Line.{Line}
 
 pub no_line : (text : List ℕ) → function_in (at_end text) ≡ None
 no_line [] = refl

@@ -1,6 +1,5 @@
 -- How a line is cut into pieces, and which pieces are names and numbers.
 use Rattle.std.specs.Prelude.{ℕ, ◌+◌, ◌*◌, ◌-◌, Bool, true, false, not, ◌&&◌, ◌||◌, ◌==◌, nat_le, List, [], ◌∷◌, ◌++◌, Option, Some, None, codes, if◌then◌else◌}
-use Rattle.mon_code.specs.Programs.{is_text}
 use Rattle.mon_compile.specs.Sound.{has_name}
 
 -- a space, a bracket, a comma or a colon

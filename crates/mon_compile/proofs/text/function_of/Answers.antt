@@ -1,4 +1,4 @@
-use Rattle.std.proofs.Common.{◌≡◌, ◌<◌, ◌≤◌, length, sym, arith, true, false, Some}
+use Rattle.std.proofs.Common.{◌≡◌, length, sym, arith, true, false, Some}
 use Rattle.mon_compile.specs.FirstForm.{all_named, nest}
 use Rattle.mon_compile.specs.LineNames.{line_reads}
 use Rattle.mon_compile.proofs.Functions.{line_locals, too_many, not_bound, is_function}
