@@ -4,5 +4,6 @@ pub mod LineTotals
 pub mod Named
 pub mod Nests
 pub mod Readings
+mod Rows
 pub mod Texts
 pub mod Totals

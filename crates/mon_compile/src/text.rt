@@ -136,3 +136,6 @@ fn function_of(
         body,
     }))
 }
+
+#[cfg(test)]
+mod tests;
