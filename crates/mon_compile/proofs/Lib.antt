@@ -1,2 +1,8 @@
 pub mod Equations
+pub mod Fits
+pub mod Induction
+pub mod Keeps
+pub mod Lengths
+pub mod Membership
 pub mod Names
+pub mod Patch
