@@ -6,3 +6,4 @@ pub mod Lengths
 pub mod Membership
 pub mod Names
 pub mod Patch
+pub mod Steps
