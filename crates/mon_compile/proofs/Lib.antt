@@ -1,9 +1,13 @@
+pub mod Assembled
+pub mod Checked
 pub mod Equations
 pub mod Fits
 pub mod Induction
 pub mod Keeps
 pub mod Lengths
+pub mod Marks
 pub mod Membership
 pub mod Names
 pub mod Patch
+pub mod Places
 pub mod Steps

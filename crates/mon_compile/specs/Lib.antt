@@ -1,3 +1,4 @@
 pub mod Sound
 pub mod Scheme
 pub mod Compiled
+pub mod Placing
