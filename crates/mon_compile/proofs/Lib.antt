@@ -10,4 +10,5 @@ pub mod Membership
 pub mod Names
 pub mod Patch
 pub mod Places
+pub mod Rows
 pub mod Steps
