@@ -5,10 +5,10 @@ pub mod Fits
 pub mod Induction
 pub mod Keeps
 pub mod Lengths
+pub mod Listing
 pub mod Marks
 pub mod Membership
-pub mod Names
 pub mod Patch
 pub mod Places
-pub mod Rows
 pub mod Steps
+pub mod Targets

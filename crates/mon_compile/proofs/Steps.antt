@@ -11,7 +11,7 @@ use Rattle.mon_compile.specs.Scheme.{FromAt, Coder, put, above, at_line, no_line
 use Rattle.mon_compile.specs.Sound.{targets, with_names, statements}
 use Rattle.mon_compile.proofs.Equations.{size, statements_cons}
 use Rattle.mon_compile.proofs.Lengths.{test_short, statement_short, block_short}
-use Rattle.mon_compile.proofs.Names.{targets_cons}
+use Rattle.mon_compile.proofs.Targets.{targets_cons}
 use Rattle.mon_compile.proofs.Patch.{patch_while}
 
 next : (body : List Statement) (i : ℕ) (s : Statement) → i < length body → s ≡ get_or body i s → drop i body ≡ s ∷ drop (i + 1) body

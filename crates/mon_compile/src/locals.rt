@@ -22,7 +22,7 @@ pub fn locals(alloc: Global, function: &Function) -> Result<Items<Text>, AllocEr
 
 // The targets of a block that are not there yet.
 #[cycle(add_targets)]
-#[tactic(auto, using(crate::proofs::Names::targets_cons))]
+#[tactic(auto, using(crate::proofs::Targets::targets_cons))]
 fn add_targets(alloc: Global, names: &mut Items<Text>, body: &[Statement]) -> Result<(), AllocError>
     ensures { OnOk result (names.new ≡ sound.with_names names.old (sound.targets body.now)) }
 {
@@ -33,7 +33,7 @@ fn add_targets(alloc: Global, names: &mut Items<Text>, body: &[Statement]) -> Re
 }
 
 #[cycle(add_targets)]
-#[tactic(auto, using(crate::proofs::Names::assign_target, crate::proofs::Names::return_target, crate::proofs::Names::while_target))]
+#[tactic(auto, using(crate::proofs::Targets::assign_target, crate::proofs::Targets::return_target, crate::proofs::Targets::while_target))]
 fn add_target(alloc: Global, names: &mut Items<Text>, statement: &Statement) -> Result<(), AllocError>
     ensures { OnOk result (names.new ≡ sound.with_names names.old (sound.targets (statement.now ∷ []))) }
 {
