@@ -124,17 +124,17 @@ each_kept t locals (s ∷ body) h r k at p w =
 statement_kept : (t : Table) (locals : Names) (s : Statement) → Keeps t locals s
 statement_kept t locals = statement_induction (Keeps t locals)
     (λ line name x r k.
-        let r' : AllIn locals (expression_reads x) = subst (AllIn locals) (assign_reads line name x) r in
-        let k' : AllIn locals (name ∷ []) = subst (AllIn locals) (assign_targets line name x) k in
-        subst (Kept t locals) (sym (assign_is locals line name x)) (assign_kept t locals line (local_number locals name) (expression_code locals x) k'.0 (expression_pushes t locals x r')))
+    let r' : AllIn locals (expression_reads x) = subst (AllIn locals) (assign_reads line name x) r in
+    let k' : AllIn locals (name ∷ []) = subst (AllIn locals) (assign_targets line name x) k in
+    subst (Kept t locals) (sym (assign_is locals line name x)) (assign_kept t locals line (local_number locals name) (expression_code locals x) k'.0 (expression_pushes t locals x r')))
     (λ line x r k.
-        let r' : AllIn locals (expression_reads x) = subst (AllIn locals) (return_reads line x) r in
-        subst (Kept t locals) (sym (return_is locals line x)) (return_kept t locals line (expression_code locals x) (expression_pushes t locals x r')))
+    let r' : AllIn locals (expression_reads x) = subst (AllIn locals) (return_reads line x) r in
+    subst (Kept t locals) (sym (return_is locals line x)) (return_kept t locals line (expression_code locals x) (expression_pushes t locals x r')))
     (λ line c body h r k.
-        let r' : AllIn locals (test_reads c ++ reads body) = subst (AllIn locals) (while_reads line c body) r in
-        let k' : AllIn locals (targets body) = subst (AllIn locals) (while_targets line c body) k in
-        subst (Kept t locals) (sym (while_is locals line c body))
-            (while_kept t locals line (test_code locals c) (block_code locals body) (test_pushes t locals c (front locals (test_reads c) (reads body) r')) (each_kept t locals body h (back locals (test_reads c) (reads body) r') k')))
+    let r' : AllIn locals (test_reads c ++ reads body) = subst (AllIn locals) (while_reads line c body) r in
+    let k' : AllIn locals (targets body) = subst (AllIn locals) (while_targets line c body) k in
+    subst (Kept t locals) (sym (while_is locals line c body))
+    (while_kept t locals line (test_code locals c) (block_code locals body) (test_pushes t locals c (front locals (test_reads c) (reads body) r')) (each_kept t locals body h (back locals (test_reads c) (reads body) r') k')))
 
 pub block_kept : (t : Table) (locals : Names) (body : List Statement) → AllIn locals (reads body) → AllIn locals (targets body) → Kept t locals (block_code locals body)
 block_kept t locals body = each_kept t locals body (each (Keeps t locals) (statement_kept t locals) body)

@@ -5,7 +5,7 @@ use Rattle.mon_code.specs.Checked as checked
 use Rattle.mon_code.specs.Programs.{op_in, op_at}
 use Rattle.mon_code.specs.declared.program.Code.{Code}
 use Rattle.mon_code.specs.declared.program.Location.{Location}
-use Rattle.mon_events.specs.Ops.{number_of} 
+use Rattle.mon_events.specs.Ops.{number_of}
 use Rattle.mon_events.specs.declared.op.Op.{Op}
 use Rattle.mon_compile.specs.declared.instruction.Instruction.{Instruction}
 use Rattle.mon_compile.specs.declared.instruction.Operation.{Operation}

@@ -29,17 +29,18 @@ flagged_none flags = record { same = refl; flags = λ at h. sym (or_false (get_o
 
 pub flagged_past : (flags : List Bool) (to : ℕ) → length flags ≤ to → Flagged flags flags (Some to)
 flagged_past flags to k = record {
-    same = refl;
-    flags = λ at h. sym (ap (λ b. get_or flags at false || b) (ne_eqb to at (λ e. omega (arith, e))) ∙ or_false (get_or flags at false));
-  }
+  same = refl;
+  flags = λ at h. sym (ap (λ b. get_or flags at false || b) (ne_eqb to at (λ e. omega (arith, e))) ∙ or_false (get_or flags at false));
+}
 
 pub flagged_set : (flags : List Bool) (to : ℕ) → to < length flags → Flagged flags (slice_set flags to true) (Some to)
 flagged_set flags to k = record {
-    same = length-set flags to true;
-    flags = λ at h. elim (eqb_tells to at) [
-        inl p ↦ ap (λ n. get_or (slice_set flags to true) n false) (sym p.1) ∙ get_or-set_same flags to true false k ∙ sym (ap (λ b. get_or flags at false || b) p.0 ∙ or_true (get_or flags at false))
-      | inr p ↦ get_or-set_other flags to at true false (λ e. p.1 (sym e)) ∙ sym (ap (λ b. get_or flags at false || b) p.0 ∙ or_false (get_or flags at false)) ];
-  }
+  same = length-set flags to true;
+  flags = λ at h. elim (eqb_tells to at) [
+    | inl p ↦ ap (λ n. get_or (slice_set flags to true) n false) (sym p.1) ∙ get_or-set_same flags to true false k ∙ sym (ap (λ b. get_or flags at false || b) p.0 ∙ or_true (get_or flags at false))
+    | inr p ↦ get_or-set_other flags to at true false (λ e. p.1 (sym e)) ∙ sym (ap (λ b. get_or flags at false || b) p.0 ∙ or_false (get_or flags at false))
+  ];
+}
 
 next : (code : List Instruction) (i : ℕ) (x : Instruction) → i < length code → x ≡ get_or code i x → drop i code ≡ x ∷ drop (i + 1) code
 next code i x h e = drop_more code i x h ∙ ap (λ y. y ∷ drop (i + 1) code) (sym e)
