@@ -4,3 +4,7 @@ pub mod Lines
 pub mod FirstForm
 pub mod LineNames
 pub mod Answers
+pub mod Scheme
+pub mod Compiled
+pub mod Placing
+pub mod Sources

@@ -1,0 +1,101 @@
+ghost use Rattle.std.specs.Prelude.{◌≡◌, [], ◌∷◌, ◌≤◌, length, IfOk, OnOk};
+ghost use Rattle.mon_code.specs.Programs.{is_text};
+ghost use Rattle.mon_compile.specs.Scheme as scheme;
+ghost use Rattle.mon_compile.specs.Sound as sound;
+
+use crate::tree::{Function, Statement};
+use mon_values::text::Text;
+use sqlite_items::Items;
+use std::alloc::{AllocError, Global};
+
+/// The locals of a function: its parameters, then the other targets of its assignments.
+pub fn locals(alloc: Global, function: &Function) -> Result<Items<Text>, AllocError>
+    ensures { IfOk result (λ names. names ≡ sound.locals_of function.now) }
+{
+    let mut names = Items::new(alloc);
+    for name in function.parameters.as_slice() {
+        names.push(name.copy(alloc)?)?;
+    }
+    add_targets(alloc, &mut names, function.body.as_slice())?;
+    Ok(names)
+}
+
+// The targets of a block that are not there yet.
+#[cycle(add_targets)]
+#[tactic(auto, using(crate::proofs::Targets::targets_cons))]
+fn add_targets(alloc: Global, names: &mut Items<Text>, body: &[Statement]) -> Result<(), AllocError>
+    ensures { OnOk result (names.new ≡ sound.with_names names.old (sound.targets body.now)) }
+{
+    for statement in body {
+        add_target(alloc, names, statement)?;
+    }
+    Ok(())
+}
+
+#[cycle(add_targets)]
+#[tactic(auto, using(crate::proofs::Targets::assign_target, crate::proofs::Targets::return_target, crate::proofs::Targets::while_target))]
+fn add_target(
+    alloc: Global,
+    names: &mut Items<Text>,
+    statement: &Statement,
+) -> Result<(), AllocError>
+    ensures { OnOk result (names.new ≡ sound.with_names names.old (sound.targets (statement.now ∷ []))) }
+{
+    match statement {
+        Statement::Assign(_, name, _) => add_name(alloc, names, name),
+        Statement::Return(_, _) => Ok(()),
+        Statement::While(_, _, inside) => add_targets(alloc, names, inside.as_slice()),
+    }
+}
+
+fn add_name(alloc: Global, names: &mut Items<Text>, name: &Text) -> Result<(), AllocError>
+    ensures { OnOk result (names.new ≡ sound.with_names names.old (name.now ∷ [])) }
+{
+    if has_name(names.as_slice(), name) {
+        return Ok(());
+    }
+    names.push(name.copy(alloc)?)
+}
+
+fn has_name(names: &[Text], name: &Text) -> bool
+    ensures { result ≡ sound.has_name names.now name.now }
+{
+    for other in names {
+        if is_same(other, name) {
+            return true;
+        }
+    }
+    false
+}
+
+/// The number of a local: how many names stand before it.
+pub fn local_number(locals: &[Text], name: &Text) -> usize
+    ensures number { result ≡ scheme.local_number locals.now name.now }
+    ensures within { result ≤ length locals.now }
+{
+    for (k, other) in locals.iter().enumerate() {
+        if is_same(other, name) {
+            return k;
+        }
+    }
+    locals.len()
+}
+
+// Whether two texts have the same characters.
+fn is_same(a: &Text, b: &Text) -> bool
+    ensures { result ≡ is_text a.now b.now }
+{
+    let mut chars = a.chars();
+    let mut others = b.chars();
+    while let Some((c, more)) = chars.split_first() {
+        let Some((other, left)) = others.split_first() else {
+            return false;
+        };
+        if *c != *other {
+            return false;
+        }
+        chars = more;
+        others = left;
+    }
+    others.is_empty()
+}
