@@ -1,0 +1,22 @@
+//! The commands of the program, over a store of named contents and a sink of bytes.
+#![tactic(auto)]
+
+mod command;
+mod compile_stub;
+mod host;
+mod memory;
+pub mod plan;
+pub mod report;
+pub mod serial;
+mod reply;
+mod sink;
+mod status;
+mod store;
+mod system;
+
+pub use host::host_serial;
+pub use memory::{MemoryFile, MemorySink, MemoryStore};
+pub use sink::{Sink, SinkFault, write_all};
+pub use status::Status;
+pub use store::{Store, StoreFault};
+pub use system::{FileStore, StdoutSink};
