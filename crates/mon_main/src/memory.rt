@@ -56,19 +56,15 @@ impl Store for MemoryStore {
         let copy = String::from_str(alloc, name)?;
         let number = self.reads;
         self.reads = self.reads.saturating_add(1);
-        let found = if self.failing.contains(&number) {
-            None
-        } else {
-            contents(self.files.as_slice(), name)
-        };
-        match found {
-            Some(bytes) => Ok(into.extend_from_slice(&bytes[..bytes.len().min(READ_LIMIT)])?),
-            None => {
-                self.faults = self.faults.saturating_add(1);
-                self.last_failed = Some(copy);
-                Err(StoreFault::Failed)
-            }
+        if !self.failing.contains(&number)
+            && let Some(bytes) = contents(self.files.as_slice(), name)
+        {
+            into.extend_from_slice(&bytes[..bytes.len().min(READ_LIMIT)])?;
+            return Ok(());
         }
+        self.faults = self.faults.saturating_add(1);
+        self.last_failed = Some(copy);
+        Err(StoreFault::Failed)
     }
 }
 

@@ -8,7 +8,8 @@ ghost use Rattle.mon_main.specs.Replies.{answer_of, ReplyCause};
 
 use crate::command::replay_words;
 use crate::compile_stub::{TextFault, compile_text};
-use crate::plan::{PlanFault, read_plan};
+use crate::plan::PlanFault;
+use crate::read::read_plan;
 use crate::report::print_report;
 use crate::serial::run_serial;
 use crate::status::Status;
@@ -74,13 +75,21 @@ fn replay<S: Store>(alloc: Global, file: &str, plan: &str, store: &mut S) -> Res
 {
     let text = contents(alloc, file, store)?;
     match compile_text(alloc, text.as_slice()) {
-        Ok((program, bases)) => {
-            let text = contents(alloc, plan, store)?;
-            Ok(planned(alloc, &program, bases.as_slice(), text.as_slice())?)
-        }
+        Ok((program, bases)) => run(alloc, &program, bases.as_slice(), plan, store),
         Err(TextFault::NotBuilt) => Ok(Reply::NotBuilt),
         Err(TextFault::Memory) => Err(StoreFault::Memory),
     }
+}
+
+/// The reply of a program to PLAN.
+fn run<S: Store>(alloc: Global, program: &Program, bases: &[u8], plan: &str, store: &mut S) -> Result<Reply, StoreFault>
+    requires { bases.now ≡ program.now.bases }
+    ensures due { (p : List ℕ) → S.holds store.old plan.now ≡ Some p → IfOk result (λ r. answer_of r ≡ spec.planned program.now (plan_of program.now p)) }
+    ensures not_usage { IfOk result (λ r. (answer_of r).status ≡ Status.Usage → ⊥) }
+    ensures cause { ReadCause plan.now (S.faults store.old) (S.faults store.new) (S.last_failed store.old) (S.last_failed store.new) result }
+{
+    let text = contents(alloc, plan, store)?;
+    Ok(planned(alloc, program, bases, text.as_slice())?)
 }
 
 /// What a name stands for.
