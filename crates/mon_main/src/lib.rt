@@ -14,6 +14,8 @@ mod sink;
 mod status;
 mod store;
 mod system;
+#[cfg(test)]
+mod tests;
 
 pub use host::host_serial;
 pub use memory::{MemoryFile, MemorySink, MemoryStore};

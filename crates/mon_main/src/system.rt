@@ -1,4 +1,4 @@
-ghost use Rattle.std.specs.Prelude.{◌≡◌, OnErr};
+ghost use Rattle.std.specs.Prelude.{◌≡◌, None, OnErr};
 
 use crate::sink::{Sink, SinkFault};
 use crate::store::{READ_LIMIT, Store, StoreFault};
@@ -11,12 +11,18 @@ use std::rt::Files;
 #[derive(Drop)]
 pub struct FileStore<'a, R: Files> {
     files: &'a R,
-    faults: u64,
-    last_failed: Option<String>,
+    /// How many reads have failed.
+    pub faults: u64,
+    /// The name of the last read that failed.
+    pub last_failed: Option<String>,
 }
 
 impl<'a, R: Files> FileStore<'a, R> {
-    pub fn new(files: &'a R) -> FileStore<'a, R> {
+    /// A store of these files, of which no read has failed.
+    pub fn new(files: &'a R) -> FileStore<'a, R>
+        ensures faults { result.faults ≡ 0 }
+        ensures last_failed { result.last_failed ≡ None }
+    {
         FileStore {
             files,
             faults: 0,
@@ -75,11 +81,15 @@ fn append_file<R: Files>(files: &R, name: &str, into: &mut Vec<u8>) -> Result<()
 #[derive(Drop)]
 pub struct StdoutSink<'a, P: Print> {
     out: &'a P,
-    faults: u64,
+    /// How many writes have failed.
+    pub faults: u64,
 }
 
 impl<'a, P: Print> StdoutSink<'a, P> {
-    pub fn new(out: &'a P) -> StdoutSink<'a, P> {
+    /// A sink to this output, of which no write has failed.
+    pub fn new(out: &'a P) -> StdoutSink<'a, P>
+        ensures { result.faults ≡ 0 }
+    {
         StdoutSink { out, faults: 0 }
     }
 }
