@@ -13,7 +13,12 @@ use std::alloc::Global;
 /// program of FILE by PLAN on one thread and writes the report. Other words are no command.
 ///
 /// Each text is made whole before it is written, so that a command that finds no memory has written nothing.
-pub fn host_serial<S: Store, K: Sink>(alloc: Global, words: &[String], store: &mut S, out: &mut K) -> Status
+pub fn host_serial<S: Store, K: Sink>(
+    alloc: Global,
+    words: &[String],
+    store: &mut S,
+    out: &mut K,
+) -> Status
     // the statuses with a text wrote it whole
     ensures done { (file plan : List ℕ) → Tells (replay_of (map string_bytes words.now)) (S.holds store.old) file plan → result ≡ Status.Done → ((answer (map string_bytes words.now) file plan).status ≡ Status.Done) × Writes (K.written out.old) (answer (map string_bytes words.now) file plan).text (K.written out.new) }
     ensures not_built { (file plan : List ℕ) → Tells (replay_of (map string_bytes words.now)) (S.holds store.old) file plan → result ≡ Status.NotBuilt → ((answer (map string_bytes words.now) file plan).status ≡ Status.NotBuilt) × Writes (K.written out.old) (answer (map string_bytes words.now) file plan).text (K.written out.new) }

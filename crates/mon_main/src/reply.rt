@@ -56,7 +56,11 @@ impl Reply {
 }
 
 /// The reply to the words of a command, whose files the store has.
-pub fn reply_to<S: Store>(alloc: Global, words: &[String], store: &mut S) -> Result<Reply, StoreFault>
+pub fn reply_to<S: Store>(
+    alloc: Global,
+    words: &[String],
+    store: &mut S,
+) -> Result<Reply, StoreFault>
     ensures due { (file plan : List ℕ) → spec.Tells (replay_of (map string_bytes words.now)) (S.holds store.old) file plan → IfOk result (λ r. answer_of r ≡ spec.answer (map string_bytes words.now) file plan) }
     ensures usage { IfOk result (λ r. (answer_of r).status ≡ Status.Usage → replay_of (map string_bytes words.now) ≡ None) }
     ensures cause { ReplyCause (replay_of (map string_bytes words.now)) (S.holds store.old) (S.faults store.old) (S.faults store.new) (S.last_failed store.new) result }
@@ -68,7 +72,12 @@ pub fn reply_to<S: Store>(alloc: Global, words: &[String], store: &mut S) -> Res
 }
 
 /// The reply to `replay FILE PLAN`. PLAN is read only where FILE has a program.
-fn replay<S: Store>(alloc: Global, file: &str, plan: &str, store: &mut S) -> Result<Reply, StoreFault>
+fn replay<S: Store>(
+    alloc: Global,
+    file: &str,
+    plan: &str,
+    store: &mut S,
+) -> Result<Reply, StoreFault>
     ensures due { (f p : List ℕ) → spec.Tells (Some (record { file = file.now; plan = plan.now })) (S.holds store.old) f p → IfOk result (λ r. answer_of r ≡ spec.compiled (program_of f) p) }
     ensures not_usage { IfOk result (λ r. (answer_of r).status ≡ Status.Usage → ⊥) }
     ensures cause { ReplyCause (Some (record { file = file.now; plan = plan.now })) (S.holds store.old) (S.faults store.old) (S.faults store.new) (S.last_failed store.new) result }
@@ -82,7 +91,13 @@ fn replay<S: Store>(alloc: Global, file: &str, plan: &str, store: &mut S) -> Res
 }
 
 /// The reply of a program to PLAN.
-fn run<S: Store>(alloc: Global, program: &Program, bases: &[u8], plan: &str, store: &mut S) -> Result<Reply, StoreFault>
+fn run<S: Store>(
+    alloc: Global,
+    program: &Program,
+    bases: &[u8],
+    plan: &str,
+    store: &mut S,
+) -> Result<Reply, StoreFault>
     requires { bases.now ≡ program.now.bases }
     ensures due { (p : List ℕ) → S.holds store.old plan.now ≡ Some p → IfOk result (λ r. answer_of r ≡ spec.planned program.now (plan_of program.now p)) }
     ensures not_usage { IfOk result (λ r. (answer_of r).status ≡ Status.Usage → ⊥) }

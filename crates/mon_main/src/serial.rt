@@ -9,7 +9,12 @@ use sqlite_items::Items;
 use std::alloc::{AllocError, Global};
 
 #[tactic(auto, unfolding(crate::specs::Serial::serial_of))]
-pub fn run_serial(alloc: Global, _program: &Program, _bases: &[u8], _plan: &Plan) -> Result<ThreadReport, AllocError>
+pub fn run_serial(
+    alloc: Global,
+    _program: &Program,
+    _bases: &[u8],
+    _plan: &Plan,
+) -> Result<ThreadReport, AllocError>
     requires fits { plan_fits _program.now _plan.now }
     requires bases { _bases.now ≡ _program.now.bases }
     ensures { IfOk result (λ r. (r.records ≡ (serial_of _program.now _plan.now).records) × (r.steps ≡ (serial_of _program.now _plan.now).steps) × (r.outcome ≡ (serial_of _program.now _plan.now).outcome)) }

@@ -11,7 +11,8 @@ const USAGE: &[u8] = b"usage: run FILE PLAN | replay FILE PLAN | dis FILE | gen 
 
 const LOOP: &str = "def f(n):\n    i = 0\n    while i < n:\n        i = i + 1\n    return i\n";
 
-const JOURNAL: &str = "journal before use_tool_id 1 cov = None\njournal before set_events 1 LINE = None at 0\njournal before register_callback 1 LINE keep = None at 0\nthread 0 f\n";
+const JOURNAL: &str =
+    "journal before use_tool_id 1 cov = None\njournal before set_events 1 LINE = None at 0\njournal before register_callback 1 LINE keep = None at 0\nthread 0 f\n";
 
 fn texts(alloc: Global, words: &[&str]) -> Result<Vec<String>, AllocError> {
     let mut all = Vec::new(alloc);
@@ -49,7 +50,9 @@ fn replayed(alloc: Global, program: &str, plan: &str) -> Result<(Status, Vec<u8>
 }
 
 fn plan(alloc: Global, steps: &str, thread: &str) -> Result<String, AllocError> {
-    format!(in alloc; "steps {steps}\nthread {thread}\nbefore\nuse_tool_id 1 cov\nset_events 1 LINE\nregister_callback 1 LINE keep\n")
+    format!(in alloc;
+        "steps {steps}\nthread {thread}\nbefore\nuse_tool_id 1 cov\nset_events 1 LINE\nregister_callback 1 LINE keep\n"
+    )
 }
 
 #[test]
@@ -127,12 +130,22 @@ fn a_text_is_written_in_pieces(rt: HostRuntime) -> Result<(), Fail> {
     let text = vec![in alloc; b'x'; 10_000]?;
     for (failing, kept) in [(0u64, 2048usize), (1, 6144), (2, 9096)] {
         let mut out = sink(alloc, &[failing])?;
-        assert_eq!(rt; write_all(&mut out, text.as_slice()), Err(SinkFault::Failed));
+        assert_eq!(rt;
+            write_all(&mut out, text.as_slice()),
+            Err(SinkFault::Failed)
+        );
         assert_eq!(rt; out.bytes.len(), kept);
         assert_eq!(rt; out.writes, failing + 1);
         assert_eq!(rt; out.faults, 1);
     }
-    for (length, writes) in [(0usize, 0u64), (1, 1), (4096, 1), (4097, 2), (8192, 2), (10_000, 3)] {
+    for (length, writes) in [
+        (0usize, 0u64),
+        (1, 1),
+        (4096, 1),
+        (4097, 2),
+        (8192, 2),
+        (10_000, 3),
+    ] {
         let mut out = sink(alloc, &[])?;
         assert!(rt; length <= text.len());
         assert_eq!(rt; write_all(&mut out, &text[..length]), Ok(()));
@@ -155,7 +168,10 @@ fn files_are_read_up_to_the_limit(rt: HostRuntime) -> Result<(), Fail> {
     assert_eq!(rt; files.read(alloc, "long", &mut bytes), Ok(()));
     assert_eq!(rt; bytes.len(), 10 + 262_145);
     assert_eq!(rt; files.faults, 0);
-    assert_eq!(rt; files.read(alloc, "absent", &mut bytes), Err(StoreFault::Failed));
+    assert_eq!(rt;
+        files.read(alloc, "absent", &mut bytes),
+        Err(StoreFault::Failed)
+    );
     assert_eq!(rt; files.read(alloc, ".", &mut bytes), Err(StoreFault::Failed));
     assert_eq!(rt; bytes.len(), 10 + 262_145);
     assert_eq!(rt; files.faults, 2);
@@ -214,7 +230,12 @@ fn what_is_not_built_is_said(rt: HostRuntime) -> Result<(), Fail> {
     let alloc = rt.alloc();
     let calls = "def a(n):\n    return b(n) + 1\ndef b(n):\n    return n * 2\n";
     let fine = plan(alloc, "100", "f 3")?;
-    for (program, text) in [(calls, fine.as_str()), ("", fine.as_str()), (LOOP, ""), (LOOP, "steps 100\n")] {
+    for (program, text) in [
+        (calls, fine.as_str()),
+        ("", fine.as_str()),
+        (LOOP, ""),
+        (LOOP, "steps 100\n"),
+    ] {
         let (status, written) = replayed(alloc, program, text)?;
         assert_eq!(rt; status, Status::NotBuilt);
         assert_eq!(rt; status.code(), 8);
@@ -226,7 +247,8 @@ fn what_is_not_built_is_said(rt: HostRuntime) -> Result<(), Fail> {
 #[test]
 fn a_loop_is_replayed(rt: HostRuntime) -> Result<(), Fail> {
     let alloc = rt.alloc();
-    let eight = "rec 1 1 LINE f 2\nrec 3 1 LINE f 3\nrec 7 1 LINE f 4\nrec 12 1 LINE f 3\nrec 16 1 LINE f 4\nrec 21 1 LINE f 3\nrec 25 1 LINE f 4\nrec 30 1 LINE f 3\n";
+    let eight =
+        "rec 1 1 LINE f 2\nrec 3 1 LINE f 3\nrec 7 1 LINE f 4\nrec 12 1 LINE f 3\nrec 16 1 LINE f 4\nrec 21 1 LINE f 3\nrec 25 1 LINE f 4\nrec 30 1 LINE f 3\n";
     for (steps, records, end) in [
         ("100", eight, "rec 34 1 LINE f 5\nend 36 returned 3\n"),
         ("0", "", "end 0 limit\n"),
