@@ -1,27 +1,19 @@
 -- The first form of a plan: which texts are plans, and of what.
-use Rattle.std.specs.Prelude.{ℕ, ◌+◌, ◌-◌, ◌*◌, ◌≡◌, ◌<◌, ◌≤◌, ◌==◌, nat_lt, nat_le, Bool, true, false, ◌&&◌, ◌||◌, not, List, [], ◌∷◌, ◌++◌, length, Option, Some, None, slice_get, ℤ, pos, neg_ℤ, codes, if◌then◌else◌}
-use Rattle.std.specs.List.{list_all}
+use Rattle.std.specs.Prelude.{ℕ, ◌+◌, ◌-◌, ◌*◌, ◌≡◌, ◌<◌, ◌≤◌, ◌==◌, nat_lt, nat_le, Bool, true, false, ◌&&◌, ◌||◌, List, [], ◌∷◌, ◌++◌, length, Option, Some, None, slice_get, ℤ, pos, neg_ℤ, codes, bytes_eq, Result, Ok, Err, if◌then◌else◌}
+use Rattle.std.specs.List.{list_all, slice_split}
 use Rattle.std.specs.Char.{is_ascii_digit, is_ascii_alphanumeric}
+use Rattle.std.specs.Fmt.{decimal}
 use Rattle.mon_code.specs.declared.program.Code.{Code}
-use Rattle.mon_code.specs.Programs.{Parts, is_text, code_named}
+use Rattle.mon_code.specs.Programs.{Parts, code_named}
 use Rattle.mon_main.specs.declared.plan.Plan.{Plan}
+use Rattle.mon_main.specs.declared.read.Start.{Start}
+use Rattle.mon_main.specs.declared.read.User.{User}
+use Rattle.mon_main.specs.declared.plan.PlanFault.{PlanFault}
+use Rattle.mon_main.specs.declared.plan.PlanFault.TheVariants as fault
 
--- a list whose first part begins with c
-abbrev pub lengthened : ℕ → List (List ℕ) → List (List ℕ)
-lengthened c [] = (c ∷ []) ∷ []
-lengthened c (part ∷ parts) = (c ∷ part) ∷ parts
-
-abbrev pub parted_if : Bool → ℕ → List (List ℕ) → List (List ℕ)
-parted_if true c parts = [] ∷ parts
-parted_if false c parts = lengthened c parts
-
--- the parts of a text between the places of a character, also the empty ones
-abbrev pub parted : ℕ → List ℕ → List (List ℕ)
-parted at [] = [] ∷ []
-parted at (c ∷ cs) = parted_if (c == at) c (parted at cs)
-
+-- the words of a line, which single spaces part
 abbrev pub words_of : List ℕ → List (List ℕ)
-words_of line = parted 32 line
+words_of line = slice_split (λ b. b == 32) line
 
 -- what the digits have for a value, behind others that have the value n
 abbrev pub value_behind : ℕ → List ℕ → Option ℕ
@@ -71,18 +63,12 @@ count_of word = if leads_with_zero word then None else at_most 200000 (digits_va
 abbrev pub steps_of_words : List (List ℕ) → Option ℕ
 steps_of_words [] = None
 steps_of_words (key ∷ []) = None
-steps_of_words (key ∷ count ∷ []) = if is_text key (codes "steps") then count_of count else None
+steps_of_words (key ∷ count ∷ []) = if bytes_eq key (codes "steps") then count_of count else None
 steps_of_words (key ∷ count ∷ more ∷ words) = None
 
 -- the line `steps N`
 abbrev pub steps_of : List ℕ → Option ℕ
 steps_of line = steps_of_words (words_of line)
-
--- what a thread begins with
-pub record Start : Type 0 where
-  -- the number of a code
-  pub code : ℕ
-  pub args : List ℤ
 
 abbrev pub parameters_of : Option Code → Option ℕ
 parameters_of None = None
@@ -93,27 +79,22 @@ start_if None code args = None
 start_if (Some count) code args = if count == length args then Some (record { code = code; args = args }) else None
 
 -- with an integer for each parameter
-abbrev pub start_of_code : List Code → Option ℕ → Option (List ℤ) → Option Start
-start_of_code cs None args = None
-start_of_code cs (Some code) None = None
-start_of_code cs (Some code) (Some args) = start_if (parameters_of (slice_get cs code)) code args
+abbrev pub start_in : List Code → Option ℕ → List ℤ → Option Start
+start_in cs None args = None
+start_in cs (Some code) args = start_if (parameters_of (slice_get cs code)) code args
+
+abbrev pub start_named : Parts → List ℕ → Option (List ℤ) → Option Start
+start_named p name None = None
+start_named p name (Some args) = if nat_lt 0 (length name) then start_in p.codes (code_named p name) args else None
 
 abbrev pub start_of_words : Parts → List (List ℕ) → Option Start
 start_of_words p [] = None
 start_of_words p (key ∷ []) = None
-start_of_words p (key ∷ name ∷ args) =
-    if is_text key (codes "thread") && nat_lt 0 (length name)
-    then start_of_code p.codes (code_named p name) (integers_of args)
-    else None
+start_of_words p (key ∷ name ∷ args) = if bytes_eq key (codes "thread") then start_named p name (integers_of args) else None
 
 -- the line `thread NAME` with its integers
 abbrev pub start_of : Parts → List ℕ → Option Start
 start_of p line = start_of_words p (words_of line)
-
--- a tool and its name
-pub record User : Type 0 where
-  pub tool : ℕ
-  pub name : List ℕ
 
 abbrev pub is_name_char : ℕ → Bool
 is_name_char c = is_ascii_alphanumeric c || c == 95 || c == 45 || c == 46
@@ -122,42 +103,40 @@ abbrev pub is_tool_name : List ℕ → Bool
 is_tool_name word = nat_lt 0 (length word) && nat_le (length word) 32 && list_all is_name_char word
 
 -- one digit from 0 to 5
-abbrev pub is_tool : List ℕ → Bool
-is_tool [] = false
-is_tool (c ∷ []) = nat_le 48 c && nat_le c 53
-is_tool (c ∷ d ∷ cs) = false
+abbrev pub tool_of : List ℕ → Option ℕ
+tool_of [] = None
+tool_of (c ∷ []) = if nat_le 48 c && nat_le c 53 then Some (c - 48) else None
+tool_of (c ∷ d ∷ cs) = None
 
-abbrev pub first_of : List ℕ → ℕ
-first_of [] = 0
-first_of (c ∷ cs) = c
+abbrev pub user_if : Bool → Option ℕ → List ℕ → Option User
+user_if false tool name = None
+user_if true None name = None
+user_if true (Some tool) name = Some (record { tool = tool; name = name })
 
 abbrev pub user_of_words : List (List ℕ) → Option User
 user_of_words [] = None
 user_of_words (key ∷ []) = None
 user_of_words (key ∷ tool ∷ []) = None
-user_of_words (key ∷ tool ∷ name ∷ []) =
-    if is_text key (codes "use_tool_id") && is_tool tool && is_tool_name name
-    then Some (record { tool = first_of tool - 48; name = name })
-    else None
+user_of_words (key ∷ tool ∷ name ∷ []) = user_if (bytes_eq key (codes "use_tool_id") && is_tool_name name) (tool_of tool) name
 user_of_words (key ∷ tool ∷ name ∷ more ∷ words) = None
 
 -- the line `use_tool_id T WORD`
 abbrev pub user_of : List ℕ → Option User
 user_of line = user_of_words (words_of line)
 
--- the line `set_events T LINE`
+-- the call `set_events T LINE`
 abbrev pub set_call : ℕ → List ℕ
-set_call tool = codes "set_events " ++ (48 + tool) ∷ codes " LINE"
+set_call tool = codes "set_events " ++ decimal tool ++ codes " LINE"
 
--- the line `register_callback T LINE keep`
+-- the call `register_callback T LINE keep`
 abbrev pub register_call : ℕ → List ℕ
-register_call tool = codes "register_callback " ++ (48 + tool) ∷ codes " LINE keep"
+register_call tool = codes "register_callback " ++ decimal tool ++ codes " LINE keep"
 
 -- whether two lines are these calls, `set_events` first, or in the other order
-abbrev pub sets_first : ℕ → List ℕ → List ℕ → Option Bool
-sets_first tool first second =
-    if is_text first (set_call tool) && is_text second (register_call tool) then Some true
-    else if is_text first (register_call tool) && is_text second (set_call tool) then Some false
+abbrev pub order_of : ℕ → List ℕ → List ℕ → Option Bool
+order_of tool first second =
+    if bytes_eq first (set_call tool) && bytes_eq second (register_call tool) then Some true
+    else if bytes_eq first (register_call tool) && bytes_eq second (set_call tool) then Some false
     else None
 
 abbrev pub plan_with_order : ℕ → Start → User → Option Bool → Option Plan
@@ -167,21 +146,37 @@ plan_with_order steps start user (Some first) =
 
 abbrev pub plan_with_user : ℕ → Start → Option User → List ℕ → List ℕ → Option Plan
 plan_with_user steps start None first second = None
-plan_with_user steps start (Some user) first second = plan_with_order steps start user (sets_first user.tool first second)
+plan_with_user steps start (Some user) first second = plan_with_order steps start user (order_of user.tool first second)
 
-abbrev pub plan_with_start : ℕ → Option Start → List ℕ → List ℕ → List ℕ → Option Plan
+abbrev pub plan_with_start : ℕ → Option Start → Option User → List ℕ → List ℕ → Option Plan
 plan_with_start steps None user first second = None
-plan_with_start steps (Some start) user first second = plan_with_user steps start (user_of user) first second
+plan_with_start steps (Some start) user first second = plan_with_user steps start user first second
 
-abbrev pub plan_with_steps : Parts → Option ℕ → List ℕ → List ℕ → List ℕ → List ℕ → Option Plan
-plan_with_steps p None start user first second = None
-plan_with_steps p (Some steps) start user first second = plan_with_start steps (start_of p start) user first second
+abbrev pub plan_with_steps : Option ℕ → Option Start → Option User → List ℕ → List ℕ → Option Plan
+plan_with_steps None start user first second = None
+plan_with_steps (Some steps) start user first second = plan_with_start steps start user first second
 
--- the six lines, and nothing behind the last line end
-abbrev pub plan_of_lines : Parts → List (List ℕ) → Option Plan
-plan_of_lines p (steps ∷ start ∷ before ∷ user ∷ first ∷ second ∷ [] ∷ []) =
-    if is_text before (codes "before") then plan_with_steps p (steps_of steps) start user first second else None
-plan_of_lines p _ = None
+-- the lines of a plan, in order
+pub record SixLines : Type 0 where
+  pub steps : List ℕ
+  pub start : List ℕ
+  pub before : List ℕ
+  pub user : List ℕ
+  pub first : List ℕ
+  pub second : List ℕ
+
+-- six lines that each end with LF: nothing stands behind the last of them
+abbrev pub six_lines : List (List ℕ) → Option SixLines
+six_lines (steps ∷ start ∷ before ∷ user ∷ first ∷ second ∷ [] ∷ []) =
+    Some (record { steps = steps; start = start; before = before; user = user; first = first; second = second })
+six_lines _ = None
+
+abbrev pub plan_of_lines : Parts → Option SixLines → Option Plan
+plan_of_lines p None = None
+plan_of_lines p (Some l) =
+    if bytes_eq l.before (codes "before")
+    then plan_with_steps (steps_of l.steps) (start_of p l.start) (user_of l.user) l.first l.second
+    else None
 
 -- a byte from 32 to 126, or LF
 abbrev pub is_plain : ℕ → Bool
@@ -192,7 +187,7 @@ is_plain_text text = nat_le (length text) 4096 && list_all is_plain text
 
 -- the plan that a text is
 abbrev pub plan_of : Parts → List ℕ → Option Plan
-plan_of p text = if is_plain_text text then plan_of_lines p (parted 10 text) else None
+plan_of p text = if is_plain_text text then plan_of_lines p (six_lines (slice_split (λ b. b == 10) text)) else None
 
 -- a plan is right for a program
 pub record plan_fits (p : Parts) (plan : Plan) : Type 0 where
@@ -200,3 +195,11 @@ pub record plan_fits (p : Parts) (plan : Plan) : Type 0 where
   pub args : parameters_of (slice_get p.codes plan.code) ≡ Some (length plan.args)
   pub steps : plan.steps ≤ 200000
   pub tool : plan.tool < 6
+
+-- a call's answer is the due one, or want of memory
+abbrev pub Answers : {A : Type 0} → Result A PlanFault → Option A → Type 0
+Answers (Ok a) None = ⊥
+Answers (Ok a) (Some b) = a ≡ b
+Answers (Err fault.NotBuilt) None = Unit {0}
+Answers (Err fault.NotBuilt) (Some b) = ⊥
+Answers (Err fault.Memory) due = Unit {0}

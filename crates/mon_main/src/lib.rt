@@ -2,5 +2,7 @@
 #![tactic(auto)]
 
 mod plan;
+mod read;
 
-pub use plan::Plan;
+pub use plan::{Plan, PlanFault};
+pub use read::read_plan;

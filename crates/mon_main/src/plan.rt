@@ -1,5 +1,10 @@
+ghost use Rattle.mon_main.specs.declared.plan.PlanFault.TheVariants as plan_fault;
+ghost use Rattle.std.specs.Prelude.{◌≡◌};
+
 use mon_values::text::Text;
 use sqlite_items::Items;
+use std::alloc::AllocError;
+use thiserror::Error;
 
 /// What a plan asks for: a thread of the program, and a tool that is told of its lines.
 #[derive(Debug, Drop)]
@@ -14,4 +19,22 @@ pub struct Plan {
     pub tool_name: Text,
     /// Whether `set_events` stands before `register_callback`.
     pub sets_first: bool,
+}
+
+/// Why a text gave no plan.
+#[derive(Clone, Copy, Debug, PartialEq, Eq, Error)]
+pub enum PlanFault {
+    /// It is not of the first form.
+    #[error("the plan is not of the first form")]
+    NotBuilt,
+    #[error("out of memory")]
+    Memory,
+}
+
+impl From<AllocError> for PlanFault {
+    ghost from_gives = { λ _ e. e ≡ plan_fault.Memory };
+
+    fn from(_: AllocError) -> PlanFault {
+        PlanFault::Memory
+    }
 }
