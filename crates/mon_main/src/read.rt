@@ -213,8 +213,12 @@ fn user_of(alloc: Global, line: &str) -> Result<User, PlanFault>
     ensures value { Answers result (spec.user_of line.now) }
     ensures bound { IfOk result (λ user. user.tool < 6) }
 {
-    let (key, words) = split_once(line, ' ').ok_or(PlanFault::NotBuilt)?;
-    let (tool, name) = split_once(words, ' ').ok_or(PlanFault::NotBuilt)?;
+    let Some((key, words)) = split_once(line, ' ') else {
+        return Err(PlanFault::NotBuilt);
+    };
+    let Some((tool, name)) = split_once(words, ' ') else {
+        return Err(PlanFault::NotBuilt);
+    };
     if let Some(_) = split_once(name, ' ') {
         return Err(PlanFault::NotBuilt);
     }
@@ -297,15 +301,12 @@ fn six_lines(text: &str) -> Option<SixLines<'_>>
     })
 }
 
-fn plan_of_lines(alloc: Global, program: &Program, lines: &SixLines<'_>) -> Result<Plan, PlanFault>
-    ensures value { Answers result (spec.plan_of_lines program.now (Some lines.now)) }
-    ensures fits { IfOk result (plan_fits program.now) }
+/// The plan of the last three lines, behind the others.
+fn plan_with_user(alloc: Global, steps: u64, start: Start, lines: &SixLines<'_>) -> Result<Plan, PlanFault>
+    ensures value { Answers result (spec.plan_with_user steps start (spec.user_of lines.now.user) lines.now.first lines.now.second) }
+    ensures kept { IfOk result (λ plan. (plan.steps ≡ steps) × (plan.code ≡ start.code) × (plan.args ≡ start.args)) }
+    ensures bound { IfOk result (λ plan. plan.tool < 6) }
 {
-    if lines.before != "before" {
-        return Err(PlanFault::NotBuilt);
-    }
-    let steps = steps_of(lines.steps).ok_or(PlanFault::NotBuilt)?;
-    let start = start_of(alloc, program, lines.start)?;
     let user = user_of(alloc, lines.user)?;
     let sets_first = order_of(alloc, user.tool, lines.first, lines.second)?;
     Ok(Plan {
@@ -316,6 +317,18 @@ fn plan_of_lines(alloc: Global, program: &Program, lines: &SixLines<'_>) -> Resu
         tool_name: user.name,
         sets_first,
     })
+}
+
+fn plan_of_lines(alloc: Global, program: &Program, lines: &SixLines<'_>) -> Result<Plan, PlanFault>
+    ensures value { Answers result (spec.plan_of_lines program.now (Some lines.now)) }
+    ensures fits { IfOk result (plan_fits program.now) }
+{
+    if lines.before != "before" {
+        return Err(PlanFault::NotBuilt);
+    }
+    let steps = steps_of(lines.steps).ok_or(PlanFault::NotBuilt)?;
+    let start = start_of(alloc, program, lines.start)?;
+    plan_with_user(alloc, steps, start, lines)
 }
 
 /// The text, where it is plain.
