@@ -1,9 +1,10 @@
 -- The answer to a command: a status, and the text that is written. It knows the words and the contents of both files,
 -- and no store.
-use Rattle.std.specs.Prelude.{◌≡◌, ℕ, List, [], ◌∷◌, ◌++◌, Option, Some, None, ◌⊎◌, IsSome, codes}
+use Rattle.std.specs.Prelude.{◌≡◌, ℕ, List, Option, Some, None, ◌⊎◌, IsSome, codes}
 use Rattle.mon_code.specs.Programs.{Parts}
 use Rattle.mon_main.specs.Commands.{Replay, replay_of}
 use Rattle.mon_main.specs.CompileStub.{program_of}
+use Rattle.mon_main.specs.Outside.{Writes}
 use Rattle.mon_main.specs.Plans.{plan_of}
 use Rattle.mon_main.specs.Serial.{serial_of}
 use Rattle.mon_main.specs.Texts.{report_text}
@@ -16,10 +17,10 @@ pub record Answer : Type 0 where
   pub text : List ℕ
 
 unfoldable pub usage_line : List ℕ
-usage_line = codes "usage: run FILE PLAN | replay FILE PLAN | dis FILE | gen NUMBER" ++ 10 ∷ []
+usage_line = codes "usage: run FILE PLAN | replay FILE PLAN | dis FILE | gen NUMBER\n"
 
 unfoldable pub not_built_line : List ℕ
-not_built_line = codes "not built yet" ++ 10 ∷ []
+not_built_line = codes "not built yet\n"
 
 abbrev pub usage : Answer
 usage = record { status = Usage; text = usage_line }
@@ -46,6 +47,10 @@ commanded (Some r) file plan = compiled (program_of file) plan
 -- the answer to words, over the contents of FILE and of PLAN
 abbrev pub answer : List (List ℕ) → List ℕ → List ℕ → Answer
 answer words file plan = commanded (replay_of words) file plan
+
+-- a command ends with this answer: its status is given, and its text is written whole
+abbrev pub Gives : Answer → Status → Option (List ℕ) → Option (List ℕ) → Type 0
+Gives a status old new = (a.status ≡ status) × Writes old a.text new
 
 -- contents are told as far as a command needs them: those of PLAN only where FILE has a program
 abbrev pub TellsPlan : Option Parts → Option (List ℕ) → List ℕ → Type 0

@@ -1,6 +1,11 @@
 -- The words of a command.
-use Rattle.std.specs.Prelude.{ℕ, List, [], ◌∷◌, Option, Some, None, Bool, false, not, ◌==◌, ◌&&◌, if◌then◌else◌, codes}
+use Rattle.std.specs.Prelude.{ℕ, List, [], ◌∷◌, map, Option, Some, None, Bool, false, not, ◌==◌, ◌&&◌, if◌then◌else◌, codes, String, string_bytes}
 use Rattle.std.specs.Str.{bytes_eq}
+use Rattle.std.specs.declared.alloc.Global.{Global}
+
+-- the words as bytes
+abbrev pub texts : List (String Global) → List (List ℕ)
+texts words = map string_bytes words
 
 -- the names that a replay is given
 pub record Replay : Type 0 where

@@ -6,6 +6,8 @@ use Rattle.std.specs.Fmt.{decimal}
 use Rattle.mon_code.specs.declared.program.Code.{Code}
 use Rattle.mon_code.specs.Programs.{Parts, code_named}
 use Rattle.mon_main.specs.declared.plan.Plan.{Plan}
+use Rattle.mon_main.specs.declared.read.Start.{Start}
+use Rattle.mon_main.specs.declared.read.User.{User}
 use Rattle.mon_main.specs.declared.plan.PlanFault.{PlanFault}
 use Rattle.mon_main.specs.declared.plan.PlanFault.TheVariants as fault
 
@@ -68,12 +70,6 @@ steps_of_words (key ∷ count ∷ more ∷ words) = None
 abbrev pub steps_of : List ℕ → Option ℕ
 steps_of line = steps_of_words (words_of line)
 
--- what a thread begins with
-pub record Start : Type 0 where
-  -- the number of a code
-  pub code : ℕ
-  pub args : List ℤ
-
 abbrev pub parameters_of : Option Code → Option ℕ
 parameters_of None = None
 parameters_of (Some c) = Some c.parameters
@@ -83,27 +79,22 @@ start_if None code args = None
 start_if (Some count) code args = if count == length args then Some (record { code = code; args = args }) else None
 
 -- with an integer for each parameter
-abbrev pub start_of_code : List Code → Option ℕ → Option (List ℤ) → Option Start
-start_of_code cs None args = None
-start_of_code cs (Some code) None = None
-start_of_code cs (Some code) (Some args) = start_if (parameters_of (slice_get cs code)) code args
+abbrev pub start_in : List Code → Option ℕ → List ℤ → Option Start
+start_in cs None args = None
+start_in cs (Some code) args = start_if (parameters_of (slice_get cs code)) code args
+
+abbrev pub start_named : Parts → List ℕ → Option (List ℤ) → Option Start
+start_named p name None = None
+start_named p name (Some args) = if nat_lt 0 (length name) then start_in p.codes (code_named p name) args else None
 
 abbrev pub start_of_words : Parts → List (List ℕ) → Option Start
 start_of_words p [] = None
 start_of_words p (key ∷ []) = None
-start_of_words p (key ∷ name ∷ args) =
-    if bytes_eq key (codes "thread") && nat_lt 0 (length name)
-    then start_of_code p.codes (code_named p name) (integers_of args)
-    else None
+start_of_words p (key ∷ name ∷ args) = if bytes_eq key (codes "thread") then start_named p name (integers_of args) else None
 
 -- the line `thread NAME` with its integers
 abbrev pub start_of : Parts → List ℕ → Option Start
 start_of p line = start_of_words p (words_of line)
-
--- a tool and its name
-pub record User : Type 0 where
-  pub tool : ℕ
-  pub name : List ℕ
 
 abbrev pub is_name_char : ℕ → Bool
 is_name_char c = is_ascii_alphanumeric c || c == 95 || c == 45 || c == 46

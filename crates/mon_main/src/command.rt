@@ -1,9 +1,9 @@
-ghost use Rattle.std.specs.Prelude.{◌≡◌, ◌↔◌, IsTrue, map, MatchOption, None, Some, string_bytes};
+ghost use Rattle.std.specs.Prelude.{◌≡◌, MatchOption, None, Some};
 ghost use Rattle.mon_main.specs.Commands as spec;
 
 /// FILE and PLAN of the words `replay FILE PLAN`. Neither word is empty or begins with `-`; other words are no command.
 pub fn replay_words(words: &[String]) -> Option<(&str, &str)>
-    ensures { MatchOption result (spec.replay_of (map string_bytes words.now) ≡ None) (λ r. spec.replay_of (map string_bytes words.now) ≡ Some (record { file = r.0.now; plan = r.1.now })) }
+    ensures { MatchOption result (spec.replay_of (spec.texts words.now) ≡ None) (λ r. spec.replay_of (spec.texts words.now) ≡ Some (record { file = r.0.now; plan = r.1.now })) }
 {
     match words {
         [verb, file, plan] => {

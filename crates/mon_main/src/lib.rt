@@ -17,9 +17,13 @@ mod system;
 #[cfg(test)]
 mod tests;
 
+pub use command::replay_words;
 pub use host::host_serial;
 pub use memory::{MemoryFile, MemorySink, MemoryStore};
 pub use plan::{Plan, PlanFault};
+pub use read::read_plan;
+pub use report::print_report;
+pub use serial::run_serial;
 pub use sink::{Sink, SinkFault, write_all};
 pub use status::Status;
 pub use store::{Store, StoreFault};

@@ -1,6 +1,6 @@
-ghost use Rattle.std.specs.Prelude.{◌≡◌, ℕ, List, [], None, Some, map, IfOk, string_bytes};
+ghost use Rattle.std.specs.Prelude.{◌≡◌, ℕ, List, [], None, Some, IfOk};
 ghost use Rattle.mon_main.specs.Answer as spec;
-ghost use Rattle.mon_main.specs.Commands.{replay_of};
+ghost use Rattle.mon_main.specs.Commands.{replay_of, texts};
 ghost use Rattle.mon_main.specs.CompileStub.{program_of};
 ghost use Rattle.mon_main.specs.Outside.{ReadCause, ReadsAll};
 ghost use Rattle.mon_main.specs.Plans.{plan_of};
@@ -61,9 +61,9 @@ pub fn reply_to<S: Store>(
     words: &[String],
     store: &mut S,
 ) -> Result<Reply, StoreFault>
-    ensures due { (file plan : List ℕ) → spec.Tells (replay_of (map string_bytes words.now)) (S.holds store.old) file plan → IfOk result (λ r. answer_of r ≡ spec.answer (map string_bytes words.now) file plan) }
-    ensures usage { IfOk result (λ r. (answer_of r).status ≡ Status.Usage → replay_of (map string_bytes words.now) ≡ None) }
-    ensures cause { ReplyCause (replay_of (map string_bytes words.now)) (S.holds store.old) (S.faults store.old) (S.faults store.new) (S.last_failed store.new) result }
+    ensures due { (file plan : List ℕ) → spec.Tells (replay_of (texts words.now)) (S.holds store.old) file plan → IfOk result (λ r. answer_of r ≡ spec.answer (texts words.now) file plan) }
+    ensures usage { IfOk result (λ r. (answer_of r).status ≡ Status.Usage → replay_of (texts words.now) ≡ None) }
+    ensures cause { ReplyCause (replay_of (texts words.now)) (S.holds store.old) (S.faults store.old) (S.faults store.new) (S.last_failed store.new) result }
 {
     match replay_words(words) {
         Some((file, plan)) => replay(alloc, file, plan, store),
