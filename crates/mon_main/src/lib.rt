@@ -3,6 +3,8 @@
 
 mod plan;
 mod read;
+mod report;
 
 pub use plan::{Plan, PlanFault};
 pub use read::read_plan;
+pub use report::print_report;
