@@ -1,0 +1,35 @@
+-- A text that is too long is of no form, so that no more of it than its first bytes counts.
+use Rattle.std.proofs.Common.{◌≡◌, ℕ, ◌<◌, ◌≤◌, ◌∙◌, List, [], length, take, refl, sym, ap, arith, subst, inl, inr, false}
+use Rattle.std.proofs.lemmas.Bool.{cases_lt}
+use Rattle.std.proofs.lemmas.Bool.Decides.{nat_tests}
+use Rattle.std.proofs.lemmas.List.{take_all, length-take-le}
+use Rattle.std.specs.Prelude.{Option, Some, None, nat_le, ◌⊎◌}
+use Rattle.mon_code.specs.Programs.{Parts}
+use Rattle.mon_main.specs.CompileStub.{program_of}
+use Rattle.mon_main.specs.Outside.{ReadsAll}
+use Rattle.mon_main.specs.declared.plan.Plan.{Plan}
+use Rattle.mon_main.specs.Plans.{plan_of}
+
+pub program_of-long : (text : List ℕ) → 16384 < length text → program_of text ≡ None
+unfolding program_of
+program_of-long text h = refl
+
+pub plan_of-long : (p : Parts) (text : List ℕ) → 4096 < length text → plan_of p text ≡ None
+plan_of-long p text h = let e : nat_le (length text) 4096 ≡ false = grind (arith, nat_tests) in rw e refl
+
+-- what gives nothing for a text over a limit needs no byte past it
+past_limit : {A : Type 0} (f : List ℕ → Option A) (limit : ℕ) → limit < 262145 → ((text : List ℕ) → limit < length text → f text ≡ None) → (text : List ℕ) → (262145 < length text) ⊎ (length text ≤ 262145) → f (take 262145 text) ≡ f text
+past_limit f limit h long text (inl k) =
+    let cut : length (take 262145 text) ≡ 262145 = length-take-le 262145 text (omega arith) in
+    long (take 262145 text) (omega arith) ∙ sym (long text (omega arith))
+past_limit f limit h long text (inr k) = ap f (take_all 262145 text k)
+
+pub program_of-take : (text : List ℕ) → program_of (take 262145 text) ≡ program_of text
+program_of-take text = past_limit program_of 16384 (omega arith) program_of-long text (cases_lt 262145 (length text))
+
+pub plan_of-take : (p : Parts) (text : List ℕ) → plan_of p (take 262145 text) ≡ plan_of p text
+plan_of-take p text = past_limit (plan_of p) 4096 (omega arith) (plan_of-long p) text (cases_lt 262145 (length text))
+
+-- what was read of told contents
+pub read_of : (held : Option (List ℕ)) (bytes read : List ℕ) → held ≡ Some bytes → ReadsAll held [] read → read ≡ take 262145 bytes
+read_of held bytes read e r = let P : Option (List ℕ) → Type 0 = λ t. ReadsAll t [] read in subst P e r

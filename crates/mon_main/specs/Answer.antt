@@ -1,0 +1,72 @@
+-- The answer to a command: a status, and the text that is written. It knows the words and the contents of both files,
+-- and no store.
+use Rattle.std.specs.Prelude.{◌≡◌, ℕ, List, Option, Some, None, ◌⊎◌, IsSome, codes}
+use Rattle.mon_code.specs.Programs.{Parts}
+use Rattle.mon_main.specs.Commands.{Replay, replay_of}
+use Rattle.mon_main.specs.CompileStub.{program_of}
+use Rattle.mon_main.specs.Outside.{Writes}
+use Rattle.mon_main.specs.Plans.{plan_of}
+use Rattle.mon_main.specs.Serial.{serial_of}
+use Rattle.mon_main.specs.Texts.{report_text}
+use Rattle.mon_main.specs.declared.plan.Plan.{Plan}
+use Rattle.mon_main.specs.declared.status.Status.{Status}
+use Rattle.mon_main.specs.declared.status.Status.TheVariants.{Done, Usage, NotBuilt}
+
+pub record Answer : Type 0 where
+  pub status : Status
+  pub text : List ℕ
+
+unfoldable pub usage_line : List ℕ
+usage_line = codes "usage: run FILE PLAN | replay FILE PLAN | dis FILE | gen NUMBER\n"
+
+unfoldable pub not_built_line : List ℕ
+not_built_line = codes "not built yet\n"
+
+abbrev pub usage : Answer
+usage = record { status = Usage; text = usage_line }
+
+abbrev pub not_built : Answer
+not_built = record { status = NotBuilt; text = not_built_line }
+
+-- the print of the serial run
+abbrev pub replayed : Parts → Plan → List ℕ
+replayed p q = report_text p q (serial_of p q).records (serial_of p q).steps (serial_of p q).outcome
+
+abbrev pub planned : Parts → Option Plan → Answer
+planned p None = not_built
+planned p (Some q) = record { status = Done; text = replayed p q }
+
+abbrev pub compiled : Option Parts → List ℕ → Answer
+compiled None plan = not_built
+compiled (Some p) plan = planned p (plan_of p plan)
+
+abbrev pub commanded : Option Replay → List ℕ → List ℕ → Answer
+commanded None file plan = usage
+commanded (Some r) file plan = compiled (program_of file) plan
+
+-- the answer to words, over the contents of FILE and of PLAN
+abbrev pub answer : List (List ℕ) → List ℕ → List ℕ → Answer
+answer words file plan = commanded (replay_of words) file plan
+
+-- a command ends with this answer: its status is given, and its text is written whole
+abbrev pub Gives : Answer → Status → Option (List ℕ) → Option (List ℕ) → Type 0
+Gives a status old new = (a.status ≡ status) × Writes old a.text new
+
+-- contents are told as far as a command needs them: those of PLAN only where FILE has a program
+abbrev pub TellsPlan : Option Parts → Option (List ℕ) → List ℕ → Type 0
+TellsPlan None told plan = Unit {0}
+TellsPlan (Some p) told plan = told ≡ Some plan
+
+abbrev pub Tells : Option Replay → (List ℕ → Option (List ℕ)) → List ℕ → List ℕ → Type 0
+Tells None holds file plan = Unit {0}
+Tells (Some r) holds file plan = (holds r.file ≡ Some file) × TellsPlan (program_of file) (holds r.plan) plan
+
+-- told contents have a program
+abbrev pub HasProgram : Option (List ℕ) → Type 0
+HasProgram None = Unit {0}
+HasProgram (Some file) = IsSome (program_of file)
+
+-- a failed read of a command was that of FILE, or that of PLAN where FILE has a program
+abbrev pub FailedRead : Option Replay → (List ℕ → Option (List ℕ)) → Option (List ℕ) → Type 0
+FailedRead None holds failed = ⊥
+FailedRead (Some r) holds failed = (failed ≡ Some r.file) ⊎ ((failed ≡ Some r.plan) × HasProgram (holds r.file))

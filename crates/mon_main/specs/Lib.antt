@@ -1,0 +1,10 @@
+pub mod Answer
+pub mod Commands
+pub mod CompileStub
+pub mod Memories
+pub mod Outside
+pub mod Plans
+pub mod Replies
+pub mod Serial
+pub mod Statuses
+pub mod Texts

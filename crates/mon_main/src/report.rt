@@ -1,0 +1,204 @@
+ghost use Rattle.std.specs.Prelude.{◌≡◌, ◌++◌, IfOk, OnOk, string_bytes, encode_utf8_all};
+ghost use Rattle.std.specs.Fmt.{decimal};
+ghost use Rattle.mon_values.specs.Classes.{name_at};
+ghost use Rattle.mon_values.specs.Printing.{repr_of};
+ghost use Rattle.mon_main.specs.Plans.{set_call as set_call_text, register_call as register_call_text};
+ghost use Rattle.mon_main.specs.Texts.{report_text};
+ghost use Rattle.mon_main.specs.Texts as spec;
+
+use crate::plan::Plan;
+use crate::read::{register_call, set_call};
+use mon_code::Program;
+use mon_recorders::{Outcome, Record, ThreadReport};
+use mon_values::text::Text;
+use mon_values::value::{Exc, Value};
+use std::alloc::{AllocError, Global};
+
+/// The `repr` of a value.
+fn repr(alloc: Global, value: &Value, names: &[Text]) -> Result<Text, AllocError>
+    ensures { IfOk result (λ text. text ≡ repr_of names.now value.now) }
+{
+    Ok(Text::new(alloc))
+}
+
+fn write_chars(out: &mut String, chars: &[char]) -> Result<(), AllocError>
+    ensures { OnOk result (string_bytes out.new ≡ string_bytes out.old ++ encode_utf8_all chars.now) }
+{
+    for c in chars {
+        out.push(*c)?;
+    }
+    Ok(())
+}
+
+fn write_number(out: &mut String, n: u64) -> Result<(), AllocError>
+    ensures { OnOk result (string_bytes out.new ≡ string_bytes out.old ++ decimal n) }
+{
+    write!(out, "{n}")
+}
+
+/// The name of a code; nothing where there is none.
+fn write_code(out: &mut String, program: &Program, code: u16) -> Result<(), AllocError>
+    ensures { OnOk result (string_bytes out.new ≡ string_bytes out.old ++ spec.code_text program.now code) }
+{
+    match program.names.get(code as usize) {
+        None => Ok(()),
+        Some(name) => write_chars(out, name.chars()),
+    }
+}
+
+fn write_use_front(out: &mut String, tool: u8) -> Result<(), AllocError>
+    ensures { OnOk result (string_bytes out.new ≡ string_bytes out.old ++ spec.use_front tool) }
+{
+    write!(out, "journal before use_tool_id {tool} ")
+}
+
+fn write_use(out: &mut String, tool: u8, name: &[char]) -> Result<(), AllocError>
+    ensures { OnOk result (string_bytes out.new ≡ string_bytes out.old ++ spec.use_line tool name.now) }
+{
+    write_use_front(out, tool)?;
+    write_chars(out, name)?;
+    out.push_str(" = None\n")
+}
+
+/// The line of a call that stopped the world.
+fn write_stop(out: &mut String, call: &str) -> Result<(), AllocError>
+    ensures { OnOk result (string_bytes out.new ≡ string_bytes out.old ++ spec.stop_line call.now) }
+{
+    write!(out, "journal before {call} = None at 0\n")
+}
+
+fn write_set(alloc: Global, out: &mut String, tool: u8) -> Result<(), AllocError>
+    ensures { OnOk result (string_bytes out.new ≡ string_bytes out.old ++ spec.stop_line (set_call_text tool)) }
+{
+    let call = set_call(alloc, tool)?;
+    write_stop(out, call.as_str())
+}
+
+fn write_register(alloc: Global, out: &mut String, tool: u8) -> Result<(), AllocError>
+    ensures { OnOk result (string_bytes out.new ≡ string_bytes out.old ++ spec.stop_line (register_call_text tool)) }
+{
+    let call = register_call(alloc, tool)?;
+    write_stop(out, call.as_str())
+}
+
+/// The calls that stopped the world, in the plan's order.
+fn write_stops(alloc: Global, out: &mut String, sets_first: bool, tool: u8) -> Result<(), AllocError>
+    ensures { OnOk result (string_bytes out.new ≡ string_bytes out.old ++ spec.stop_lines sets_first tool) }
+{
+    if sets_first {
+        write_set(alloc, out, tool)?;
+        write_register(alloc, out, tool)
+    } else {
+        write_register(alloc, out, tool)?;
+        write_set(alloc, out, tool)
+    }
+}
+
+fn write_journal(alloc: Global, out: &mut String, plan: &Plan) -> Result<(), AllocError>
+    ensures { OnOk result (string_bytes out.new ≡ string_bytes out.old ++ spec.journal_text plan.now) }
+{
+    write_use(out, plan.tool, plan.tool_name.chars())?;
+    write_stops(alloc, out, plan.sets_first, plan.tool)
+}
+
+fn write_thread(out: &mut String, program: &Program, code: u16) -> Result<(), AllocError>
+    ensures { OnOk result (string_bytes out.new ≡ string_bytes out.old ++ spec.thread_line program.now code) }
+{
+    out.push_str("thread 0 ")?;
+    write_code(out, program, code)?;
+    out.push_str("\n")
+}
+
+fn write_record_front(out: &mut String, step: u64, tool: u8) -> Result<(), AllocError>
+    ensures { OnOk result (string_bytes out.new ≡ string_bytes out.old ++ spec.record_front step tool) }
+{
+    write!(out, "rec {step} {tool} ")
+}
+
+/// A record up to its event.
+fn write_record_head(out: &mut String, record: &Record) -> Result<(), AllocError>
+    ensures { OnOk result (string_bytes out.new ≡ string_bytes out.old ++ spec.record_head record.now) }
+{
+    write_record_front(out, record.step, record.tool)?;
+    out.push_str(record.event.name())?;
+    out.push_str(" ")
+}
+
+/// What a record has behind its code.
+fn write_arguments(out: &mut String, record: &Record) -> Result<(), AllocError>
+    ensures { OnOk result (string_bytes out.new ≡ string_bytes out.old ++ spec.arguments_text record.now) }
+{
+    out.push_str(" ")?;
+    write_number(out, u64::from(record.at))
+}
+
+fn write_record(out: &mut String, program: &Program, record: &Record) -> Result<(), AllocError>
+    ensures { OnOk result (string_bytes out.new ≡ string_bytes out.old ++ spec.record_line program.now record.now) }
+{
+    write_record_head(out, record)?;
+    write_code(out, program, record.code)?;
+    write_arguments(out, record)?;
+    out.push_str("\n")
+}
+
+fn write_records(out: &mut String, program: &Program, records: &[Record]) -> Result<(), AllocError>
+    ensures { OnOk result (string_bytes out.new ≡ string_bytes out.old ++ spec.records_text program.now records.now) }
+{
+    for record in records {
+        write_record(out, program, record)?;
+    }
+    Ok(())
+}
+
+/// The `repr` of a value, with the names of the program's functions.
+fn write_value(alloc: Global, out: &mut String, program: &Program, value: &Value) -> Result<(), AllocError>
+    ensures { OnOk result (string_bytes out.new ≡ string_bytes out.old ++ encode_utf8_all (repr_of program.now.names value.now)) }
+{
+    let text = repr(alloc, value, program.names.as_slice())?;
+    write_chars(out, text.chars())
+}
+
+fn write_exc(alloc: Global, out: &mut String, program: &Program, exc: &Exc) -> Result<(), AllocError>
+    ensures { OnOk result (string_bytes out.new ≡ string_bytes out.old ++ spec.exc_text program.now exc.now) }
+{
+    let value = Value::Exc(exc.copy(alloc)?);
+    write_value(alloc, out, program, &value)
+}
+
+fn write_outcome(alloc: Global, out: &mut String, program: &Program, outcome: &Outcome) -> Result<(), AllocError>
+    ensures { OnOk result (string_bytes out.new ≡ string_bytes out.old ++ spec.outcome_text program.now outcome.now) }
+{
+    match outcome {
+        Outcome::Returned(value) => {
+            out.push_str("returned ")?;
+            write_value(alloc, out, program, value)
+        }
+        Outcome::Raised(exc) => {
+            out.push_str("raised ")?;
+            write_exc(alloc, out, program, exc)
+        }
+        Outcome::Limit => out.push_str("limit"),
+    }
+}
+
+fn write_end(alloc: Global, out: &mut String, program: &Program, report: &ThreadReport) -> Result<(), AllocError>
+    ensures { OnOk result (string_bytes out.new ≡ string_bytes out.old ++ spec.end_line program.now report.now.steps report.now.outcome) }
+{
+    out.push_str("end ")?;
+    write_number(out, report.steps)?;
+    out.push_str(" ")?;
+    write_outcome(alloc, out, program, &report.outcome)?;
+    out.push_str("\n")
+}
+
+/// What is written of a thread that ran under a plan, as UTF-8.
+pub fn print_report(alloc: Global, program: &Program, plan: &Plan, report: &ThreadReport) -> Result<Vec<u8>, AllocError>
+    ensures { IfOk result (λ v. v.items ≡ report_text program.now plan.now report.now.records report.now.steps report.now.outcome) }
+{
+    let mut out = String::new(alloc);
+    write_journal(alloc, &mut out, plan)?;
+    write_thread(&mut out, program, plan.code)?;
+    write_records(&mut out, program, report.records.as_slice())?;
+    write_end(alloc, &mut out, program, report)?;
+    Ok(out.into_bytes())
+}

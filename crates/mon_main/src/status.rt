@@ -1,0 +1,35 @@
+ghost use Rattle.std.specs.Prelude.{◌≡◌};
+ghost use Rattle.mon_main.specs.Statuses as spec;
+
+/// How a command ended. The numbers are the exit statuses of the program.
+#[derive(Clone, Copy, Debug, PartialEq, Eq)]
+pub enum Status {
+    /// The command was done.
+    Done = 0,
+    /// The words are no command.
+    Usage = 2,
+    /// The store refused to read a file.
+    ReadFault = 5,
+    /// The sink refused to write.
+    WriteFault = 6,
+    /// There was not enough memory. Nothing was written.
+    Memory = 7,
+    /// A file has a form that is not built yet.
+    NotBuilt = 8,
+}
+
+impl Status {
+    /// The exit status.
+    pub fn code(self) -> u8
+        ensures { result ≡ spec.code_of self }
+    {
+        match self {
+            Status::Done => 0,
+            Status::Usage => 2,
+            Status::ReadFault => 5,
+            Status::WriteFault => 6,
+            Status::Memory => 7,
+            Status::NotBuilt => 8,
+        }
+    }
+}

@@ -1,0 +1,279 @@
+use crate::{
+    FileStore, MemoryFile, MemorySink, MemoryStore, Sink, SinkFault, Status, StdoutSink, Store,
+    StoreFault, host_serial, write_all,
+};
+use std::alloc::{AllocError, Global};
+use std::fmt::Display;
+use std::test::Fail;
+use std::{fs, io};
+
+const USAGE: &[u8] = b"usage: run FILE PLAN | replay FILE PLAN | dis FILE | gen NUMBER\n";
+
+const LOOP: &str = "def f(n):\n    i = 0\n    while i < n:\n        i = i + 1\n    return i\n";
+
+const JOURNAL: &str =
+    "journal before use_tool_id 1 cov = None\njournal before set_events 1 LINE = None at 0\njournal before register_callback 1 LINE keep = None at 0\nthread 0 f\n";
+
+fn texts(alloc: Global, words: &[&str]) -> Result<Vec<String>, AllocError> {
+    let mut all = Vec::new(alloc);
+    for word in words {
+        all.push(String::from_str(alloc, word)?)?;
+    }
+    Ok(all)
+}
+
+fn file(alloc: Global, name: &str, contents: &str) -> Result<MemoryFile, AllocError> {
+    Ok(MemoryFile {
+        name: String::from_str(alloc, name)?,
+        contents: Vec::from_slice(alloc, contents.as_bytes())?,
+    })
+}
+
+fn store(alloc: Global, program: &str, plan: &str) -> Result<MemoryStore, AllocError> {
+    let mut files = Vec::new(alloc);
+    files.push(file(alloc, "program", program)?)?;
+    files.push(file(alloc, "plan", plan)?)?;
+    Ok(MemoryStore::new(files, Vec::new(alloc)))
+}
+
+fn sink(alloc: Global, failing: &[u64]) -> Result<MemorySink, AllocError> {
+    Ok(MemorySink::new(Vec::new(alloc), Vec::from_slice(alloc, failing)?))
+}
+
+/// What `replay` answers and writes.
+fn replayed(alloc: Global, program: &str, plan: &str) -> Result<(Status, Vec<u8>), AllocError> {
+    let words = texts(alloc, &["replay", "program", "plan"])?;
+    let mut store = store(alloc, program, plan)?;
+    let mut out = sink(alloc, &[])?;
+    let status = host_serial(alloc, words.as_slice(), &mut store, &mut out);
+    Ok((status, out.bytes))
+}
+
+fn plan(alloc: Global, steps: &str, thread: &str) -> Result<String, AllocError> {
+    format!(in alloc;
+        "steps {steps}\nthread {thread}\nbefore\nuse_tool_id 1 cov\nset_events 1 LINE\nregister_callback 1 LINE keep\n"
+    )
+}
+
+#[test]
+fn other_words_are_no_command(rt: HostRuntime) -> Result<(), Fail> {
+    let alloc = rt.alloc();
+    let lists: [&[&str]; 11] = [
+        &[],
+        &["replay"],
+        &["replay", "program"],
+        &["replay", "program", "plan", "more"],
+        &["replay", "", "plan"],
+        &["replay", "program", ""],
+        &["replay", "-program", "plan"],
+        &["replay", "program", "-"],
+        &["run", "program", "plan"],
+        &["dis", "program"],
+        &["gen", "100"],
+    ];
+    for list in lists {
+        let words = texts(alloc, list)?;
+        let mut store = store(alloc, LOOP, "")?;
+        let mut out = sink(alloc, &[])?;
+        let status = host_serial(alloc, words.as_slice(), &mut store, &mut out);
+        assert_eq!(rt; status, Status::Usage);
+        assert_eq!(rt; status.code(), 2);
+        assert_eq!(rt; out.bytes.as_slice(), USAGE);
+        assert_eq!(rt; store.reads, 0);
+    }
+    Ok(())
+}
+
+#[test]
+fn a_failed_write_leaves_a_prefix(rt: HostRuntime) -> Result<(), Fail> {
+    let alloc = rt.alloc();
+    let words = texts(alloc, &[])?;
+    let mut store = store(alloc, LOOP, "")?;
+    let mut out = sink(alloc, &[0])?;
+    let status = host_serial(alloc, words.as_slice(), &mut store, &mut out);
+    assert_eq!(rt; status, Status::WriteFault);
+    assert_eq!(rt; status.code(), 6);
+    assert_eq!(rt; out.bytes.as_slice(), &USAGE[..32]);
+    Ok(())
+}
+
+/// Replays by these words, where the read with the number `failing` fails.
+fn fails_to_read(rt: &HostRuntime, words: &[&str], failing: u64) -> Result<(), Fail> {
+    let alloc = rt.alloc();
+    let words = texts(alloc, words)?;
+    let mut store = store(alloc, LOOP, "")?;
+    store.failing.push(failing)?;
+    let mut out = sink(alloc, &[])?;
+    let status = host_serial(alloc, words.as_slice(), &mut store, &mut out);
+    assert_eq!(rt; status, Status::ReadFault);
+    assert_eq!(rt; status.code(), 5);
+    assert!(rt; out.bytes.is_empty());
+    assert_eq!(rt; store.faults, 1);
+    Ok(())
+}
+
+#[test]
+fn a_program_that_is_not_read_writes_nothing(rt: HostRuntime) -> Result<(), Fail> {
+    fails_to_read(&rt, &["replay", "absent", "plan"], 9)?;
+    fails_to_read(&rt, &["replay", "program", "plan"], 0)
+}
+
+#[test]
+fn a_plan_that_is_not_read_writes_nothing(rt: HostRuntime) -> Result<(), Fail> {
+    fails_to_read(&rt, &["replay", "program", "absent"], 9)?;
+    fails_to_read(&rt, &["replay", "program", "plan"], 1)
+}
+
+#[test]
+fn a_text_is_written_in_pieces(rt: HostRuntime) -> Result<(), Fail> {
+    let alloc = rt.alloc();
+    let text = vec![in alloc; b'x'; 10_000]?;
+    for (failing, kept) in [(0u64, 2048usize), (1, 6144), (2, 9096)] {
+        let mut out = sink(alloc, &[failing])?;
+        assert_eq!(rt;
+            write_all(&mut out, text.as_slice()),
+            Err(SinkFault::Failed)
+        );
+        assert_eq!(rt; out.bytes.len(), kept);
+        assert_eq!(rt; out.writes, failing + 1);
+        assert_eq!(rt; out.faults, 1);
+    }
+    for (length, writes) in [
+        (0usize, 0u64),
+        (1, 1),
+        (4096, 1),
+        (4097, 2),
+        (8192, 2),
+        (10_000, 3),
+    ] {
+        let mut out = sink(alloc, &[])?;
+        assert!(rt; length <= text.len());
+        assert_eq!(rt; write_all(&mut out, &text[..length]), Ok(()));
+        assert_eq!(rt; out.bytes.len(), length);
+        assert_eq!(rt; out.writes, writes);
+    }
+    Ok(())
+}
+
+#[test]
+fn files_are_read_up_to_the_limit(rt: HostRuntime) -> Result<(), Fail> {
+    let alloc = rt.alloc();
+    let long = vec![in alloc; b'x'; 300_000]?;
+    fs::write(&rt, "long", long.as_slice())?;
+    fs::write(&rt, "short", b"abc")?;
+    let mut files = FileStore::new(&rt);
+    let mut bytes = Vec::from_slice(alloc, b"before ")?;
+    assert_eq!(rt; files.read(alloc, "short", &mut bytes), Ok(()));
+    assert_eq!(rt; bytes.as_slice(), b"before abc".as_slice());
+    assert_eq!(rt; files.read(alloc, "long", &mut bytes), Ok(()));
+    assert_eq!(rt; bytes.len(), 10 + 262_145);
+    assert_eq!(rt; files.faults, 0);
+    assert_eq!(rt;
+        files.read(alloc, "absent", &mut bytes),
+        Err(StoreFault::Failed)
+    );
+    assert_eq!(rt; files.read(alloc, ".", &mut bytes), Err(StoreFault::Failed));
+    assert_eq!(rt; bytes.len(), 10 + 262_145);
+    assert_eq!(rt; files.faults, 2);
+    Ok(())
+}
+
+/// Takes three bytes at a write, and nothing once it has taken ten.
+#[derive(Drop)]
+struct Narrow {
+    taken: std::cell::Cell<usize>,
+}
+
+impl Print for Narrow {
+    fn print<D: Display + Drop>(&self, _value: D) -> io::Result<()> {
+        Err(io::Error::from(io::ErrorKind::Unsupported))
+    }
+
+    fn println<D: Display + Drop>(&self, _value: D) -> io::Result<()> {
+        Err(io::Error::from(io::ErrorKind::Unsupported))
+    }
+
+    fn write_all(&self, _bytes: &[u8]) -> io::Result<()> {
+        Err(io::Error::from(io::ErrorKind::Unsupported))
+    }
+
+    fn write_some(&self, bytes: &[u8]) -> io::Result<usize> {
+        let taken = self.taken.get();
+        if taken >= 10 {
+            return Ok(0);
+        }
+        let count = bytes.len().min(3);
+        self.taken.set(taken.saturating_add(count));
+        Ok(count)
+    }
+}
+
+#[test]
+fn output_that_takes_nothing_fails(rt: HostRuntime) -> Result<(), Fail> {
+    let narrow = Narrow {
+        taken: std::cell::Cell::new(0),
+    };
+    let mut out = StdoutSink::new(&narrow);
+    assert_eq!(rt; out.write(b"abcdefgh"), Ok(()));
+    assert_eq!(rt; narrow.taken.get(), 8);
+    assert_eq!(rt; out.write(b"abcdefgh"), Err(SinkFault::Failed));
+    assert_eq!(rt; out.write(b""), Ok(()));
+    assert_eq!(rt; out.faults, 1);
+    let mut out = StdoutSink::new(&rt);
+    assert_eq!(rt; out.write(b"written\n"), Ok(()));
+    assert_eq!(rt; out.faults, 0);
+    Ok(())
+}
+
+#[test]
+fn what_is_not_built_is_said(rt: HostRuntime) -> Result<(), Fail> {
+    let alloc = rt.alloc();
+    let calls = "def a(n):\n    return b(n) + 1\ndef b(n):\n    return n * 2\n";
+    let fine = plan(alloc, "100", "f 3")?;
+    for (program, text) in [
+        (calls, fine.as_str()),
+        ("", fine.as_str()),
+        (LOOP, ""),
+        (LOOP, "steps 100\n"),
+    ] {
+        let (status, written) = replayed(alloc, program, text)?;
+        assert_eq!(rt; status, Status::NotBuilt);
+        assert_eq!(rt; status.code(), 8);
+        assert_eq!(rt; written.as_slice(), b"not built yet\n".as_slice());
+    }
+    Ok(())
+}
+
+#[test]
+fn a_loop_is_replayed(rt: HostRuntime) -> Result<(), Fail> {
+    let alloc = rt.alloc();
+    let eight =
+        "rec 1 1 LINE f 2\nrec 3 1 LINE f 3\nrec 7 1 LINE f 4\nrec 12 1 LINE f 3\nrec 16 1 LINE f 4\nrec 21 1 LINE f 3\nrec 25 1 LINE f 4\nrec 30 1 LINE f 3\n";
+    for (steps, records, end) in [
+        ("100", eight, "rec 34 1 LINE f 5\nend 36 returned 3\n"),
+        ("0", "", "end 0 limit\n"),
+        ("34", eight, "end 34 limit\n"),
+        ("35", eight, "rec 34 1 LINE f 5\nend 35 limit\n"),
+    ] {
+        let text = plan(alloc, steps, "f 3")?;
+        let (status, written) = replayed(alloc, LOOP, text.as_str())?;
+        assert_eq!(rt; status, Status::Done);
+        assert_eq!(rt; status.code(), 0);
+        let want = format!(in alloc; "{JOURNAL}{records}{end}")?;
+        assert_eq!(rt; written.as_slice(), want.as_bytes());
+    }
+    Ok(())
+}
+
+#[test]
+fn an_exception_is_reported(rt: HostRuntime) -> Result<(), Fail> {
+    let alloc = rt.alloc();
+    let program = "def f(n):\n    x = n + 9223372036854775807\n    return x\n";
+    let text = plan(alloc, "100", "f 1")?;
+    let (status, written) = replayed(alloc, program, text.as_str())?;
+    assert_eq!(rt; status, Status::Done);
+    let end = "rec 1 1 LINE f 2\nend 5 raised OverflowError('integer out of range')\n";
+    let want = format!(in alloc; "{JOURNAL}{end}")?;
+    assert_eq!(rt; written.as_slice(), want.as_bytes());
+    Ok(())
+}
