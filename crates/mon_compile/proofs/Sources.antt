@@ -1,6 +1,7 @@
 -- What is due to a text, by its tree.
-use Rattle.std.proofs.Common.{◌≡◌, ℕ, List, refl, sym, ap, ◌∙◌, subst}
-use Rattle.std.specs.Prelude.{Option, Some, None, Result, Ok, Err, Vec}
+use Rattle.std.proofs.Common.{◌≡◌, ◌<◌, ℕ, List, length, refl, sym, ap, subst, arith, false}
+use Rattle.std.proofs.lemmas.Bool.Decides.{nat_tests}
+use Rattle.std.specs.Prelude.{Option, Some, None, Result, Ok, Err, Vec, nat_le}
 use Rattle.std.specs.Option.{option_map}
 use Rattle.std.specs.declared.alloc.Global.{Global}
 use Rattle.mon_code.specs.Programs.{Parts}
@@ -24,3 +25,9 @@ compiled_text text f r e p b = subst (λ (due : Option Parts). AnswersProgram (O
 
 pub no_program : (text : List ℕ) → first_form text ≡ None → AnswersProgram (Err NotBuilt) (program_of text)
 no_program text e = subst (λ (due : Option Parts). AnswersProgram (Err NotBuilt) due) (sym (program_of_none text e)) tt
+
+-- a text over the limit has none
+pub program_of-long : (text : List ℕ) → 16384 < length text → program_of text ≡ None
+program_of-long text h =
+    let e : nat_le (length text) 16384 ≡ false = grind (arith, nat_tests) in
+    program_of_none text (rw e refl)

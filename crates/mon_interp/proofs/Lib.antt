@@ -1,4 +1,3 @@
-pub mod Records
 pub mod Heard
 pub mod Answered
 pub mod Results

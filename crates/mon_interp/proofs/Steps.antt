@@ -22,7 +22,8 @@ use Rattle.mon_machine.specs.Step.{State, Step, step, in_mode, in_code, at_locat
 use Rattle.mon_machine.specs.Run.{Progress, is_heard, heard}
 use Rattle.mon_interp.specs.Heard.{cell_hears}
 use Rattle.mon_interp.specs.Machines.{Stepped}
-use Rattle.mon_interp.proofs.Heard.{executed_by_cell, unheard}
+use Rattle.mon_machine.proofs.Heard.{is_heard-line_alone, heard_unwound}
+use Rattle.mon_interp.proofs.Heard.{executed_by_cell}
 
 runs : (p : Parts) (s : State) → s.mode ≡ Run → step p s ≡ in_code p (slice_get p.codes s.frame.code) s.frame
 unfolding step
@@ -89,6 +90,6 @@ stepped_unwound p b f mode e records n is =
     subst (λ (x : Step). Stepped x (is_heard b) (record { state = record { frame = f; mode = mode }; records = records; steps = n }) (record { state = record { frame = f; mode = Ended (Raised e) }; records = records; steps = n + 1 })) (sym found)
     (record {
       state = refl;
-      records = sym (append-nil records) ∙ ap (λ (r : List Record). records ++ r) (sym (unheard (is_heard b) n s.events (refl, tt)));
+      records = sym (append-nil records) ∙ ap (λ (r : List Record). records ++ r) (sym (heard_unwound (is_heard b) n p f e (is_heard-line_alone b)));
       steps = refl;
     })

@@ -15,7 +15,7 @@ use sqlite_items::Items;
 use std::alloc::{AllocError, Global};
 
 // Records the line for each tool for which the word enables LINE, in ascending order.
-#[tactic(auto, using(std::proofs::lemmas::Grind::common_steps, crate::proofs::Records::records_for_none, crate::proofs::Records::records_for_more))]
+#[tactic(auto, using(std::proofs::lemmas::Grind::common_steps, mon_machine::proofs::Heard::records_for_none, mon_machine::proofs::Heard::records_for_more))]
 fn hear(
     alloc: Global,
     records: &mut Items<Record>,

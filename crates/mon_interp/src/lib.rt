@@ -5,7 +5,6 @@
 mod execute;
 mod hear;
 mod machine;
-mod stub;
 mod thread;
 
 pub use thread::{AdvanceFault, EntryFault, Stop, Thread};

@@ -54,7 +54,7 @@ impl Machine {
     }
 
     /// One instruction, at a location with this word.
-    #[tactic(auto, using(std::proofs::lemmas::Grind::common_steps, crate::proofs::Heard::heard_executed))]
+    
     fn step_at(
         &mut self,
         code: &Code,

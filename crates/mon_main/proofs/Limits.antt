@@ -5,14 +5,11 @@ use Rattle.std.proofs.lemmas.Bool.Decides.{nat_tests}
 use Rattle.std.proofs.lemmas.List.{take_all, length-take-le}
 use Rattle.std.specs.Prelude.{Option, Some, None, nat_le, ◌⊎◌}
 use Rattle.mon_code.specs.Programs.{Parts}
-use Rattle.mon_main.specs.CompileStub.{program_of}
+use Rattle.mon_compile.specs.Sources.{program_of}
+use Rattle.mon_compile.proofs.Sources.{program_of-long}
 use Rattle.mon_main.specs.Outside.{ReadsAll}
 use Rattle.mon_main.specs.declared.plan.Plan.{Plan}
 use Rattle.mon_main.specs.Plans.{plan_of}
-
-pub program_of-long : (text : List ℕ) → 16384 < length text → program_of text ≡ None
-unfolding program_of
-program_of-long text h = refl
 
 pub plan_of-long : (p : Parts) (text : List ℕ) → 4096 < length text → plan_of p text ≡ None
 plan_of-long p text h = let e : nat_le (length text) 4096 ≡ false = grind (arith, nat_tests) in rw e refl

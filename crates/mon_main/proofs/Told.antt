@@ -7,12 +7,12 @@ use Rattle.mon_code.specs.Programs.{Parts}
 use Rattle.mon_main.proofs.Limits.{plan_of-take, program_of-take, read_of}
 use Rattle.mon_main.specs.Answer.{Answer, planned, compiled, not_built, TellsPlan, HasProgram, FailedRead}
 use Rattle.mon_main.specs.Commands.{Replay}
-use Rattle.mon_main.specs.CompileStub.{Answers, program_of}
+use Rattle.mon_compile.specs.Sources.{AnswersProgram, program_of}
 use Rattle.mon_main.specs.Outside.{ReadsAll, ReadCause, Rose}
 use Rattle.mon_main.specs.Plans.{plan_of}
 use Rattle.mon_main.specs.Replies.{answer_of, ReplyCause}
-use Rattle.mon_main.specs.declared.compile_stub.TextFault.{TextFault}
-use Rattle.mon_main.specs.declared.compile_stub.TextFault.TheVariants as text_fault
+use Rattle.mon_compile.specs.declared.text.TextFault.{TextFault}
+use Rattle.mon_compile.specs.declared.text.TextFault.TheVariants as text_fault
 use Rattle.mon_main.specs.declared.reply.Reply.{Reply}
 use Rattle.mon_main.specs.declared.store.StoreFault.{StoreFault}
 use Rattle.mon_main.specs.declared.store.StoreFault.TheVariants.{Failed, Memory}
@@ -32,11 +32,11 @@ due_of_plan p held text read a e r d = d ∙ ap (planned p) (ap (plan_of p) (rea
 pub found : (held : Option (List ℕ)) (text read : List ℕ) (due : Option Parts) → held ≡ Some text → ReadsAll held [] read → program_of read ≡ due → program_of text ≡ due
 found held text read due e r d = sym (program_of-take text) ∙ ap program_of (sym (read_of held text read e r)) ∙ d
 
-pub is_due : (p : Parts) (bases : Vec ℕ Global) (due : Option Parts) → Answers (Ok (p, bases)) due → due ≡ Some p
+pub is_due : (p : Parts) (bases : Vec ℕ Global) (due : Option Parts) → AnswersProgram (Ok (p, bases)) due → due ≡ Some p
 is_due p bases None h = absurd h
 is_due p bases (Some q) h = ap (λ t. Some t) (sym h.0)
 
-pub is_not_due : (due : Option Parts) → Answers (Err text_fault.NotBuilt) due → due ≡ None
+pub is_not_due : (due : Option Parts) → AnswersProgram (Err text_fault.NotBuilt) due → due ≡ None
 is_not_due None h = refl
 is_not_due (Some q) h = absurd h
 

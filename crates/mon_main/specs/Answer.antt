@@ -3,7 +3,7 @@
 use Rattle.std.specs.Prelude.{◌≡◌, ℕ, List, Option, Some, None, ◌⊎◌, IsSome, codes}
 use Rattle.mon_code.specs.Programs.{Parts}
 use Rattle.mon_main.specs.Commands.{Replay, replay_of}
-use Rattle.mon_main.specs.CompileStub.{program_of}
+use Rattle.mon_compile.specs.Sources.{program_of}
 use Rattle.mon_main.specs.Outside.{Writes}
 use Rattle.mon_main.specs.Plans.{plan_of}
 use Rattle.mon_main.specs.Serial.{serial_of}

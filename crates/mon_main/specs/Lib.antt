@@ -1,6 +1,5 @@
 pub mod Answer
 pub mod Commands
-pub mod CompileStub
 pub mod Memories
 pub mod Outside
 pub mod Plans

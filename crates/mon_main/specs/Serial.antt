@@ -1,9 +1,15 @@
--- Stands in for the definitions of serial runs.
-use Rattle.std.specs.Prelude.{ℕ, List, []}
+-- The serial run of a plan: the plain run of its thread, of which the plan's tool hears the LINE events.
+use Rattle.std.specs.Prelude.{ℕ, List, [], map, Option, Some, None, slice_get, slice_index, ◌^◌, if◌then◌else◌}
+use Rattle.mon_values.specs.declared.value.Value.{Int}
+use Rattle.mon_code.specs.declared.program.Code.{Code}
+use Rattle.mon_code.specs.declared.program.Location.{Location}
 use Rattle.mon_code.specs.Programs.{Parts}
+use Rattle.mon_words.specs.Words.{word_of}
 use Rattle.mon_recorders.specs.declared.record.Record.{Record}
 use Rattle.mon_recorders.specs.declared.report.Outcome.{Outcome}
-use Rattle.mon_recorders.specs.declared.report.Outcome.TheVariants.{Limit}
+use Rattle.mon_machine.specs.Step.{State, start}
+use Rattle.mon_machine.specs.Run.{after_steps, steps_done, outcome_of}
+use Rattle.mon_machine.specs.Serial.{line_records}
 use Rattle.mon_main.specs.declared.plan.Plan.{Plan}
 
 pub record Serial : Type 0 where
@@ -11,5 +17,22 @@ pub record Serial : Type 0 where
   pub steps : ℕ
   pub outcome : Outcome
 
+-- at most so many steps from a state
+abbrev pub serial_from : Parts → ℕ → ℕ → State → Serial
+serial_from p tool steps s = record {
+  records = line_records p tool 0 s steps;
+  steps = steps_done p s steps;
+  outcome = outcome_of (after_steps p s steps).mode;
+}
+
+-- a program has the plan's code; without it nothing would be done
+abbrev pub serial_in : Parts → Plan → Option Code → Serial
+serial_in p plan None = record { records = []; steps = 0; outcome = Outcome.Limit }
+serial_in p plan (Some c) = serial_from p plan.tool plan.steps (start c plan.code (map Int plan.args))
+
 unfoldable pub serial_of : Parts → Plan → Serial
-serial_of p plan = record { records = []; steps = 0; outcome = Limit }
+serial_of p plan = serial_in p plan (slice_get p.codes plan.code)
+
+-- the word of a location before any step: LINE is wanted for the tool where the location is marked, and all bits are live
+abbrev pub line_word : List ℕ → ℕ → ℕ → Location → ℕ
+line_word bases tool number l = word_of (record { place = slice_index bases number; base = slice_index bases number; want = if l.is_marked then 2 ^ tool else 0; live = 16777215 })

@@ -2,7 +2,6 @@
 #![tactic(auto)]
 
 mod command;
-mod compile_stub;
 mod host;
 mod memory;
 mod plan;

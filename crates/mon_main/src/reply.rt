@@ -1,13 +1,12 @@
 ghost use Rattle.std.specs.Prelude.{◌≡◌, ℕ, List, [], None, Some, IfOk};
 ghost use Rattle.mon_main.specs.Answer as spec;
 ghost use Rattle.mon_main.specs.Commands.{replay_of, texts};
-ghost use Rattle.mon_main.specs.CompileStub.{program_of};
+ghost use Rattle.mon_compile.specs.Sources.{program_of};
 ghost use Rattle.mon_main.specs.Outside.{ReadCause, ReadsAll};
 ghost use Rattle.mon_main.specs.Plans.{plan_of};
 ghost use Rattle.mon_main.specs.Replies.{answer_of, ReplyCause};
 
 use crate::command::replay_words;
-use crate::compile_stub::{TextFault, compile_text};
 use crate::plan::PlanFault;
 use crate::read::read_plan;
 use crate::report::print_report;
@@ -15,6 +14,8 @@ use crate::serial::run_serial;
 use crate::status::Status;
 use crate::store::{Store, StoreFault};
 use mon_code::Program;
+use mon_compile::compile_text;
+use mon_compile::text::TextFault;
 use std::alloc::{AllocError, Global};
 
 const USAGE: &[u8] = b"usage: run FILE PLAN | replay FILE PLAN | dis FILE | gen NUMBER\n";

@@ -1,29 +1,83 @@
-ghost use Rattle.std.specs.Prelude.{◌≡◌, IfOk};
+ghost use Rattle.std.specs.Prelude.{◌≡◌, ◌+◌, ◌<◌, ◌++◌, length, OnOk, IfOk};
+ghost use Rattle.mon_machine.specs.Serial.{of_locations, of_codes};
 ghost use Rattle.mon_main.specs.Plans.{plan_fits};
-ghost use Rattle.mon_main.specs.Serial.{serial_of};
+ghost use Rattle.mon_main.specs.Serial.{serial_of, line_word};
 
 use crate::plan::Plan;
-use mon_code::Program;
-use mon_recorders::{Outcome, ThreadReport};
-use sqlite_items::Items;
+use mon_code::{Code, Location, Program};
+use mon_interp::Thread;
+use mon_recorders::ThreadReport;
+use mon_words::{Parts, PlainWords, pack};
 use std::alloc::{AllocError, Global};
 
-#[tactic(auto, unfolding(crate::specs::Serial::serial_of))]
+// The first word of a location.
+fn first_word(bases: &[u8], tool: u8, number: usize, location: &Location) -> u64
+    requires { tool < 6 }
+    ensures { result ≡ line_word bases.now tool number location.now }
+{
+    let base = bases.get(number).copied().unwrap_or(0);
+    let want = if location.is_marked { 1 << tool } else { 0 };
+    pack(Parts {
+        place: base,
+        base,
+        want,
+        live: 0xff_ffff,
+    })
+}
+
+// Adds the first words of a code's locations.
+fn push_words(
+    words: &mut Vec<u64>,
+    bases: &[u8],
+    tool: u8,
+    code: &Code,
+) -> Result<(), AllocError>
+    requires { tool < 6 }
+    ensures { OnOk result (words.new.items ≡ words.old.items ++ of_locations (line_word bases.now tool) (length words.old.items) code.now.locations) }
+{
+    for location in code.locations.as_slice() {
+        let word = first_word(bases, tool, words.len(), location);
+        words.push(word)?;
+    }
+    Ok(())
+}
+
+// The first words of all locations.
+fn first_words(
+    alloc: Global,
+    program: &Program,
+    bases: &[u8],
+    tool: u8,
+) -> Result<Vec<u64>, AllocError>
+    requires { tool < 6 }
+    ensures { IfOk result (λ words. words.items ≡ of_codes (line_word bases.now tool) 0 program.now.codes) }
+{
+    let mut words = Vec::new(alloc);
+    for code in program.codes.as_slice() {
+        push_words(&mut words, bases, tool, code)?;
+    }
+    Ok(words)
+}
+
+/// Runs the plan's thread over words of its own, and reports it.
 pub fn run_serial(
     alloc: Global,
-    _program: &Program,
-    _bases: &[u8],
-    _plan: &Plan,
+    program: &Program,
+    bases: &[u8],
+    plan: &Plan,
 ) -> Result<ThreadReport, AllocError>
-    requires fits { plan_fits _program.now _plan.now }
-    requires bases { _bases.now ≡ _program.now.bases }
-    ensures { IfOk result (λ r. (r.records ≡ (serial_of _program.now _plan.now).records) × (r.steps ≡ (serial_of _program.now _plan.now).steps) × (r.outcome ≡ (serial_of _program.now _plan.now).outcome)) }
+    requires fits { plan_fits program.now plan.now }
+    requires bases { bases.now ≡ program.now.bases }
+    ensures { IfOk result (λ r. (r.records ≡ (serial_of program.now plan.now).records) × (r.steps ≡ (serial_of program.now plan.now).steps) × (r.outcome ≡ (serial_of program.now plan.now).outcome)) }
 {
-    Ok(ThreadReport {
-        printed: Items::new(alloc),
-        records: Items::new(alloc),
-        disables: Items::new(alloc),
-        steps: 0,
-        outcome: Outcome::Limit,
-    })
+    let Some(code) = program.code(plan.code) else {
+        unreachable!()
+    };
+    let words = first_words(alloc, program, bases, plan.tool)?;
+    let mut handle = PlainWords::new(words);
+    let mut thread = Thread::begin(alloc, code, plan.code, plan.args.as_slice())?;
+    match thread.advance(program, &mut handle, plan.steps) {
+        Ok(_) => Ok(thread.finish()),
+        Err(_) => Err(AllocError),
+    }
 }

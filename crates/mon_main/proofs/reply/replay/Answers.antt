@@ -1,6 +1,6 @@
 use Rattle.std.proofs.Common.{◌≡◌, ◌∙◌, ap, sym}
 use Rattle.std.specs.Prelude.{Some, None}
-use Rattle.mon_main.specs.CompileStub.{program_of}
+use Rattle.mon_compile.specs.Sources.{program_of}
 use Rattle.mon_main.proofs.Told.{cause_of_plan, due_of_program, found, has_program, is_due, is_not_due, not_built_due}
 use Rattle.mon_main.proofs.reply.replay.Goals as goal
 

@@ -1,0 +1,100 @@
+-- The serial run, by what its thread did.
+use Rattle.std.proofs.Common.{◌≡◌, ◌⊎◌, ℕ, zero, suc, ◌+◌, ◌*◌, ◌/◌, ◌%◌, ◌<◌, ◌≤◌, Bool, true, false, List, [], ◌∷◌, ◌++◌, length, map, drop, refl, sym, ap, ◌∙◌, arith, subst, append_assoc, append-nil, length-append, inl, inr}
+use Rattle.std.specs.Prelude.{Option, Some, None, slice_get, slice_index, if◌then◌else◌, ◌^◌}
+use Rattle.std.proofs.Common.{drop-cons}
+use Rattle.std.proofs.lemmas.List.{drop_all}
+use Rattle.std.proofs.Math.Nat.{pow-le-pow_right}
+use Rattle.mon_values.specs.declared.value.Value.{Value}
+use Rattle.mon_code.specs.declared.program.Code.{Code}
+use Rattle.mon_code.specs.declared.program.Location.{Location}
+use Rattle.mon_code.specs.Programs.{Parts}
+use Rattle.mon_code.specs.Checked.{IsChecked, AllCodes}
+use Rattle.mon_code.proofs.Codes.{codes_end}
+use Rattle.mon_words.specs.Words.{cell_of}
+use Rattle.mon_words.specs.History.{base_in}
+use Rattle.mon_words.specs.Told.{plain_board}
+use Rattle.mon_words.specs.declared.history.Board.{Board}
+use Rattle.mon_recorders.specs.declared.record.Record.{Record}
+use Rattle.mon_recorders.specs.declared.report.Outcome.{Outcome}
+use Rattle.mon_machine.specs.Step.{State, start, goes}
+use Rattle.mon_machine.specs.Run.{Progress, Ran, Goes, after_steps, steps_done, outcome_of, records_of}
+use Rattle.mon_machine.specs.Serial.{line_records, HasLineWants, of_locations, of_codes}
+use Rattle.mon_machine.specs.Laws.{IsCall, HearsLines}
+use Rattle.mon_machine.proofs.Calls.{heard_by_wants}
+use Rattle.mon_machine.proofs.Runs.{steps_done_goes, steps_done_all, after_steps_all}
+use Rattle.mon_machine.proofs.Heard.{line_records_done}
+use Rattle.mon_machine.proofs.Numbers.{wants_of_words, length_of_codes}
+use Rattle.mon_main.specs.Serial.{Serial, serial_from, line_word}
+
+-- a thread that did what it could of so many steps, over words that want LINE for one tool, did the serial run
+pub serial_ran : (p : Parts) (k : ℕ) (c : Code) (args : List Value) (tool : ℕ) (b : Board) (old new : Progress) (steps : ℕ) → IsCall p k c args → HasLineWants p tool b → old ≡ record { state = start c k args; records = []; steps = 0 }
+    → Ran p b [] [] old new → (goes new.state.mode ≡ false) ⊎ (new.steps ≡ old.steps + steps) → new.steps ≤ old.steps + steps
+    → record { records = new.records; steps = new.steps; outcome = outcome_of new.state.mode } ≡ serial_from p tool steps (start c k args)
+serial_ran p k c args tool b old new steps call wants begins r ends few =
+    let s : State = start c k args in
+    let n : ℕ = length r.positions in
+    let at : old.state ≡ s = ap (λ (x : Progress). x.state) begins in
+    let none : old.records ≡ [] = ap (λ (x : Progress). x.records) begins in
+    let first : old.steps ≡ 0 = ap (λ (x : Progress). x.steps) begins in
+    let on : Goes p s n = subst (λ (x : State). Goes p x n) at r.goes in
+    let there : new.state ≡ after_steps p s n = r.state ∙ ap (λ (x : State). after_steps p x n) at in
+    let count : new.steps ≡ n = omega (arith, r.steps, first) in
+    let done : (steps_done p s steps ≡ n) × (after_steps p s steps ≡ after_steps p s n) = elim ends [
+      | inl stops ↦
+          let stands : goes (after_steps p s n).mode ≡ false = subst (λ (x : State). goes x.mode ≡ false) there stops in
+          let low : n ≤ steps = omega (arith, few, count, first) in
+          (steps_done_all p s n steps on stands low, after_steps_all p s n steps stands low)
+      | inr all ↦
+          let same : steps ≡ n = omega (arith, all, count, first) in
+          (ap (λ m. steps_done p s m) same ∙ steps_done_goes p s n on, ap (λ m. after_steps p s m) same)
+    ] in
+    let heard : new.records ≡ line_records p tool 0 s n
+    = r.records ∙ ap (λ (l : List Record). l ++ records_of p b [] old.steps old.state r.positions) none
+        ∙ ap (λ m. records_of p b [] m old.state r.positions) first ∙ ap (λ (x : State). records_of p b [] 0 x r.positions) at
+        ∙ (heard_by_wants p k c args call tool b wants).whole_run 0 r.positions in
+    let records : new.records ≡ line_records p tool 0 s steps = heard ∙ ap (λ m. line_records p tool 0 s m) (sym done.0) ∙ line_records_done p tool 0 s steps in
+    let outcome : outcome_of new.state.mode ≡ outcome_of (after_steps p s steps).mode = ap (λ (x : State). outcome_of x.mode) (there ∙ sym done.1) in
+    λ i. record { records = records i; steps = (count ∙ sym done.0) i; outcome = outcome i }
+
+-- the parts of a word whose live bits are all 1
+word_parts : (place base want : ℕ) → place < 256 → base < 256 → want < 16777216 → let n = place + base * 256 + want * 65536 + 16777215 * 1099511627776 in (n / 65536 % 16777216 ≡ want) × (n / 1099511627776 ≡ 16777215) × (n / 256 % 256 ≡ base)
+word_parts place base want p b w = (omega arith, omega arith, omega arith)
+
+small_want : (marked : Bool) (tool : ℕ) → tool < 6 → (if marked then 2 ^ tool else 0) < 16777216
+small_want true tool h = let most : 2 ^ tool ≤ 2 ^ 5 = pow-le-pow_right {n = 2} (omega arith) {i = tool} {j = 5} (omega arith) in omega arith
+small_want false tool h = omega arith
+
+parts_of_line : (bases : List ℕ) (tool number : ℕ) (l : Location) → ((n : ℕ) → slice_index bases n < 256) → tool < 6
+    → ((cell_of (line_word bases tool number l)).want ≡ (if l.is_marked then 2 ^ tool else 0)) × ((cell_of (line_word bases tool number l)).live ≡ 16777215) × ((cell_of (line_word bases tool number l)).base ≡ slice_index bases number)
+parts_of_line bases tool number l small within = word_parts (slice_index bases number) (slice_index bases number) (if l.is_marked then 2 ^ tool else 0) (small number) (small number) (small_want l.is_marked tool within)
+
+-- the words that the run begins with want LINE for the tool
+pub first_words-want : (p : Parts) (tool : ℕ) → IsChecked p → tool < 6 → ((n : ℕ) → slice_index p.bases n < 256) → HasLineWants p tool (plain_board (of_codes (line_word p.bases tool) 0 p.codes))
+first_words-want p tool checked within small =
+    wants_of_words p tool (line_word p.bases tool) checked within (λ number l. let parts = parts_of_line p.bases tool number l small within in (parts.0, parts.1))
+
+module _ (bases : List ℕ) (tool : ℕ) (small : (n : ℕ) → slice_index bases n < 256) (within : tool < 6) where
+  bases_in-append : (xs ys : List ℕ) → map base_in (map cell_of (xs ++ ys)) ≡ map base_in (map cell_of xs) ++ map base_in (map cell_of ys)
+  bases_in-append [] ys = refl
+  bases_in-append (x ∷ xs) ys = ap (λ (r : List ℕ). base_in (cell_of x) ∷ r) (bases_in-append xs ys)
+
+  of_some : (from : ℕ) (ls : List Location) → from + length ls ≤ length bases → map base_in (map cell_of (of_locations (line_word bases tool) from ls)) ++ drop (from + length ls) bases ≡ drop from bases
+  of_some from [] h = ap (λ n. drop n bases) (omega arith)
+  of_some from (l ∷ ls) h =
+      let here : base_in (cell_of (line_word bases tool from l)) ≡ slice_index bases from = (parts_of_line bases tool from l small within).2 in
+      let rest : map base_in (map cell_of (of_locations (line_word bases tool) (from + 1) ls)) ++ drop (from + length (l ∷ ls)) bases ≡ drop (from + 1) bases
+      = ap (λ n. map base_in (map cell_of (of_locations (line_word bases tool) (from + 1) ls)) ++ drop n bases) (omega arith) ∙ of_some (from + 1) ls (omega arith) in
+      let next : drop (from + 1) bases ≡ drop (suc from) bases = ap (λ n. drop n bases) (omega arith) in
+      (λ i. here i ∷ (rest ∙ next) i) ∙ sym (drop-cons bases from 0 (omega arith))
+
+  of_all : (from : ℕ) (cs : List Code) → AllCodes bases from cs → map base_in (map cell_of (of_codes (line_word bases tool) from cs)) ≡ drop from bases
+  of_all from [] h = sym (drop_all from bases (omega (arith, h)))
+  of_all from (c ∷ cs) h =
+      let end : from + length c.locations ≤ length bases = codes_end bases (from + length c.locations) cs h.2 in
+      bases_in-append (of_locations (line_word bases tool) from c.locations) (of_codes (line_word bases tool) (from + length c.locations) cs)
+      ∙ ap (λ (r : List ℕ). map base_in (map cell_of (of_locations (line_word bases tool) from c.locations)) ++ r) (of_all (from + length c.locations) cs h.2)
+      ∙ of_some from c.locations end
+
+-- and have its base opcodes
+pub first_words-bases : (p : Parts) (tool : ℕ) → IsChecked p → tool < 6 → ((n : ℕ) → slice_index p.bases n < 256) → map base_in (map cell_of (of_codes (line_word p.bases tool) 0 p.codes)) ≡ p.bases
+first_words-bases p tool checked within small = of_all p.bases tool small within 0 p.codes checked.codes

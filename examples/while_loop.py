@@ -1,0 +1,5 @@
+def f(n):
+    i = 0
+    while i < n:
+        i = i + 1
+    return i
