@@ -1,9 +1,9 @@
 -- The program of a sound function that is not too long is checked.
-use Rattle.std.proofs.Common.{◌≡◌, ℕ, zero, suc, ◌+◌, ◌-◌, ◌*◌, ◌<◌, ◌≤◌, IsTrue, Bool, true, false, List, [], ◌∷◌, ◌++◌, length, Option, Some, None, refl, sym, ap, ◌∙◌, subst, arith, append_assoc, length-append}
+use Rattle.std.proofs.Common.{◌≡◌, ℕ, zero, suc, ◌+◌, ◌-◌, ◌<◌, ◌≤◌, IsTrue, List, [], ◌∷◌, ◌++◌, length, Option, Some, None, refl, sym, ap, ◌∙◌, subst, arith, append_assoc, length-append}
 use Rattle.std.specs.Prelude.{slice_get}
 use Rattle.mon_code.specs.Checked as checked
 use Rattle.mon_code.specs.Operators.{arith_number, cmp_number}
-use Rattle.mon_code.specs.Programs.{op_at, location_at}
+use Rattle.mon_code.specs.Programs.{location_at}
 use Rattle.mon_code.specs.declared.program.Code.{Code}
 use Rattle.mon_code.specs.declared.program.Location.{Location}
 use Rattle.mon_values.specs.declared.operator.ArithOp.{ArithOp}
@@ -16,7 +16,7 @@ use Rattle.mon_compile.specs.declared.tree.Function.{Function}
 use Rattle.mon_compile.specs.Compiled.{op_of, argument_of, constants_in, constants_of, bases_of, locations_of, unmarked, marks, marked, compiled}
 use Rattle.mon_compile.specs.Scheme.{put, above, no_line, block_code, function_code}
 use Rattle.mon_compile.specs.Sound.{IsSound, locals_of, reads, statements}
-use Rattle.mon_compile.proofs.Fits.{Table, Records, effect, HasLocal, Lands, Fits, AllFit, Stands, Good, records_as, stands_as, before, join, fits_plain, fits_return}
+use Rattle.mon_compile.proofs.Fits.{Table, Records, effect, HasLocal, Lands, Fits, AllFit, Stands, records_as, before, join, fits_plain, fits_return}
 use Rattle.mon_compile.proofs.Keeps.{block_kept}
 use Rattle.mon_compile.proofs.Lengths.{function_short}
 use Rattle.mon_compile.proofs.Marks.{Ops, ops_self, op_there, effect_same, mark_same}

@@ -1,5 +1,5 @@
 -- A small function, by index.
-use Rattle.std.proofs.Common.{◌≡◌, ℕ, List, [], ◌∷◌, Option, Some, None, Bool, true, false, refl, sym, ap, ◌∙◌, ◌++◌, length, ◌+◌}
+use Rattle.std.proofs.Common.{◌≡◌, ℕ, List, [], ◌∷◌, Option, Some, None, Bool, true, false, ap, ◌∙◌, ◌++◌, length, ◌+◌}
 use Rattle.std.specs.Prelude.{pos}
 use Rattle.mon_code.specs.Programs.{Parts}
 use Rattle.mon_code.specs.declared.program.Code.{Code}

@@ -1,5 +1,5 @@
 -- Names that are among the locals have a number there.
-use Rattle.std.proofs.Common.{◌≡◌, ℕ, zero, suc, ◌+◌, ◌<◌, ◌≤◌, Bool, true, false, if◌then◌else◌, ◌&&◌, ◌||◌, ◌==◌, List, [], ◌∷◌, ◌++◌, length, refl, sym, ap, ◌∙◌, subst, arith, length-append, get_or, eq-eqb}
+use Rattle.std.proofs.Common.{◌≡◌, ℕ, zero, suc, ◌+◌, ◌<◌, ◌≤◌, Bool, true, false, if◌then◌else◌, ◌||◌, List, [], ◌∷◌, ◌++◌, length, refl, sym, subst, arith, length-append, get_or, eq-eqb}
 use Rattle.std.specs.List.{All, Contains}
 use Rattle.mon_code.specs.Programs.{is_text}
 use Rattle.mon_compile.specs.declared.tree.Function.{Function}

@@ -1,15 +1,15 @@
 -- Which indexes are jumped to, and the locations, instruction by instruction.
-use Rattle.std.proofs.Common.{◌≡◌, ℕ, zero, suc, ◌+◌, ◌<◌, ◌≤◌, ◌||◌, ◌&&◌, ◌==◌, Bool, true, false, not, List, [], ◌∷◌, ◌++◌, length, drop, get_or, Option, Some, None, refl, sym, ap, ◌∙◌, subst, arith, append_assoc, inl, inr}
+use Rattle.std.proofs.Common.{◌≡◌, ℕ, zero, suc, ◌+◌, ◌<◌, ◌≤◌, ◌||◌, Bool, true, false, List, [], ◌∷◌, ◌++◌, length, drop, get_or, Option, Some, None, refl, sym, ap, ◌∙◌, arith, append_assoc, inl, inr}
 use Rattle.std.proofs.lemmas.Bool.{ne_eqb}
 use Rattle.std.proofs.lemmas.Bool.Decides.{eqb_tells}
-use Rattle.std.specs.Prelude.{slice_get, slice_set, slice_index_or, replicate}
-use Rattle.std.proofs.lemmas.List.{drop_more, length-set, get_or-set_same, get_or-set_other, length-replicate, get_or-replicate}
+use Rattle.std.specs.Prelude.{slice_set, replicate}
+use Rattle.std.proofs.lemmas.List.{drop_more, length-set, get_or-set_same, get_or-set_other, get_or-replicate}
 use Rattle.std.proofs.Math.Seq.{drop-nil}
 use Rattle.std.proofs.lemmas.Option.{slice_get-get_or}
 use Rattle.mon_code.specs.Checked.{jumps_to}
 use Rattle.mon_code.specs.declared.program.Location.{Location}
 use Rattle.mon_compile.specs.declared.instruction.Instruction.{Instruction}
-use Rattle.mon_compile.specs.Compiled.{constants_in, constants_of, bases_of, op_of}
+use Rattle.mon_compile.specs.Compiled.{constants_in}
 use Rattle.mon_compile.specs.Placing.{destination, is_target, Flags, Flagged, location_of, mark, placed}
 
 or_false : (b : Bool) → (b || false) ≡ b

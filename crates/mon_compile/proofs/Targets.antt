@@ -1,5 +1,5 @@
 -- The targets of a block, statement by statement.
-use Rattle.std.proofs.Common.{◌≡◌, ℕ, List, [], ◌∷◌, ◌++◌, Bool, true, false, if◌then◌else◌, sym, ap, ◌∙◌, refl, append_assoc}
+use Rattle.std.proofs.Common.{◌≡◌, ℕ, List, [], ◌∷◌, ◌++◌, true, false, if◌then◌else◌, sym, ap, ◌∙◌, refl}
 use Rattle.std.proofs.lemmas.List.{append-nil}
 use Rattle.mon_compile.specs.declared.tree.Expression.{Expression}
 use Rattle.mon_compile.specs.declared.tree.Statement.{Statement, Assign, Return}

@@ -1,5 +1,5 @@
 -- The program of a function, from its instructions.
-use Rattle.std.specs.Prelude.{ℕ, ◌+◌, List, [], ◌∷◌, ◌++◌, length, map, Option, Some, None, false}
+use Rattle.std.specs.Prelude.{ℕ, ◌+◌, List, [], ◌∷◌, ◌++◌, length, Option, Some, None, false}
 use Rattle.mon_code.specs.Programs.{Parts}
 use Rattle.mon_code.specs.Checked.{is_marked}
 use Rattle.mon_code.specs.Operators.{arith_number, cmp_number}
