@@ -2,6 +2,8 @@
 #![tactic(auto)]
 
 mod plan;
+#[cfg(test)]
+mod plan_tests;
 mod read;
 mod report;
 
