@@ -160,10 +160,16 @@ fn wants_six_whole_lines_of_plain_words(rt: HostRuntime) -> Result<(), Fail> {
 
 /// Reads a plan with these words in place of the number of steps, the thread's name and integers, and the tool and its
 /// name.
-fn check_words(rt: &impl Abort, alloc: Global, rows: &[(&str, &str, &str, &str)]) -> Result<(), AllocError> {
+fn check_words(
+    rt: &impl Abort,
+    alloc: Global,
+    rows: &[(&str, &str, &str, &str)],
+) -> Result<(), AllocError> {
     let program = program(alloc, "f")?;
     for (steps, thread, user, want) in rows {
-        let text = format!(in alloc; "steps {steps}\nthread {thread}\nbefore\nuse_tool_id {user}\nset_events 1 LINE\nregister_callback 1 LINE keep\n")?;
+        let text = format!(in alloc;
+            "steps {steps}\nthread {thread}\nbefore\nuse_tool_id {user}\nset_events 1 LINE\nregister_callback 1 LINE keep\n"
+        )?;
         let shown = show(alloc, read_plan(alloc, &program, text.as_bytes()))?;
         assert_eq!(rt; shown.as_str(), *want, "at {text:?}");
     }
@@ -194,8 +200,18 @@ fn takes_up_to_200000_steps(rt: HostRuntime) -> Result<(), Fail> {
 
 fn thread_rows() -> &'static [(&'static str, &'static str, &'static str, &'static str)] {
     &[
-        ("1", "f 999999999999999999", "1 t", "1 0 999999999999999999 1 t true"),
-        ("1", "f -999999999999999999", "1 t", "1 0 -999999999999999999 1 t true"),
+        (
+            "1",
+            "f 999999999999999999",
+            "1 t",
+            "1 0 999999999999999999 1 t true",
+        ),
+        (
+            "1",
+            "f -999999999999999999",
+            "1 t",
+            "1 0 -999999999999999999 1 t true",
+        ),
         ("1", "f 000000000000000001", "1 t", "1 0 1 1 t true"),
         ("1", "f 1000000000000000000", "1 t", "NotBuilt"),
         ("1", "f 0000000000000000001", "1 t", "NotBuilt"),
@@ -227,7 +243,12 @@ fn user_rows() -> &'static [(&'static str, &'static str, &'static str, &'static 
             "1 abcdefghijklmnopqrstuvwxyz012345",
             "1 0 3 1 abcdefghijklmnopqrstuvwxyz012345 true",
         ),
-        ("1", "f 3", "1 abcdefghijklmnopqrstuvwxyz0123456", "NotBuilt"),
+        (
+            "1",
+            "f 3",
+            "1 abcdefghijklmnopqrstuvwxyz0123456",
+            "NotBuilt",
+        ),
         ("1", "f 3", "1 ", "NotBuilt"),
         ("1", "f 3", "1", "NotBuilt"),
         ("1", "f 3", "1 a b", "NotBuilt"),
@@ -252,7 +273,9 @@ fn read_long(alloc: Global, count: usize) -> Result<String, AllocError> {
         name.push('f')?;
     }
     let program = program(alloc, name.as_str())?;
-    let text = format!(in alloc; "steps 5\nthread {name} 3\nbefore\nuse_tool_id 1 t\nset_events 1 LINE\nregister_callback 1 LINE keep\n")?;
+    let text = format!(in alloc;
+        "steps 5\nthread {name} 3\nbefore\nuse_tool_id 1 t\nset_events 1 LINE\nregister_callback 1 LINE keep\n"
+    )?;
     let shown = show(alloc, read_plan(alloc, &program, text.as_bytes()))?;
     let length = text.as_str().len();
     format!(in alloc; "{length} {shown}")
@@ -298,27 +321,38 @@ fn printed(alloc: Global, plan: &str, steps: u64, outcome: Outcome) -> Result<Ve
 
 #[test]
 fn prints_a_whole_report(rt: HostRuntime) -> Result<(), Fail> {
-    let plan = "steps 100\nthread f 3\nbefore\nuse_tool_id 1 cov\nset_events 1 LINE\nregister_callback 1 LINE keep\n";
+    let plan =
+        "steps 100\nthread f 3\nbefore\nuse_tool_id 1 cov\nset_events 1 LINE\nregister_callback 1 LINE keep\n";
     let text = printed(rt.alloc(), plan, 36, Outcome::Returned(Value::Int(3)))?;
-    let want = b"journal before use_tool_id 1 cov = None\njournal before set_events 1 LINE = None at 0\njournal before register_callback 1 LINE keep = None at 0\nthread 0 f\nrec 1 1 LINE f 2\nrec 34 1 LINE f 5\nend 36 returned 3\n";
+    let want =
+        b"journal before use_tool_id 1 cov = None\njournal before set_events 1 LINE = None at 0\njournal before register_callback 1 LINE keep = None at 0\nthread 0 f\nrec 1 1 LINE f 2\nrec 34 1 LINE f 5\nend 36 returned 3\n";
     assert_eq!(&rt; text.as_slice(), want.as_slice());
     Ok(())
 }
 
 #[test]
 fn prints_the_other_order_and_the_limit(rt: HostRuntime) -> Result<(), Fail> {
-    let plan = "steps 35\nthread f 3\nbefore\nuse_tool_id 5 a.b\nregister_callback 5 LINE keep\nset_events 5 LINE\n";
+    let plan =
+        "steps 35\nthread f 3\nbefore\nuse_tool_id 5 a.b\nregister_callback 5 LINE keep\nset_events 5 LINE\n";
     let text = printed(rt.alloc(), plan, 35, Outcome::Limit)?;
-    let want = b"journal before use_tool_id 5 a.b = None\njournal before register_callback 5 LINE keep = None at 0\njournal before set_events 5 LINE = None at 0\nthread 0 f\nrec 1 1 LINE f 2\nrec 34 1 LINE f 5\nend 35 limit\n";
+    let want =
+        b"journal before use_tool_id 5 a.b = None\njournal before register_callback 5 LINE keep = None at 0\njournal before set_events 5 LINE = None at 0\nthread 0 f\nrec 1 1 LINE f 2\nrec 34 1 LINE f 5\nend 35 limit\n";
     assert_eq!(&rt; text.as_slice(), want.as_slice());
     Ok(())
 }
 
 #[test]
 fn prints_the_exception(rt: HostRuntime) -> Result<(), Fail> {
-    let plan = "steps 100\nthread f 3\nbefore\nuse_tool_id 1 cov\nset_events 1 LINE\nregister_callback 1 LINE keep\n";
-    let exc = Exc { class: 0, arg: None };
+    let plan =
+        "steps 100\nthread f 3\nbefore\nuse_tool_id 1 cov\nset_events 1 LINE\nregister_callback 1 LINE keep\n";
+    let exc = Exc {
+        class: 0,
+        arg: None,
+    };
     let text = printed(rt.alloc(), plan, 36, Outcome::Raised(exc))?;
-    assert!(&rt; text.as_slice().ends_with(b"end 36 raised BaseException()\n"));
+    assert!(&rt;
+        text.as_slice()
+            .ends_with(b"end 36 raised BaseException()\n")
+    );
     Ok(())
 }

@@ -82,7 +82,12 @@ fn write_register(alloc: Global, out: &mut String, tool: u8) -> Result<(), Alloc
 }
 
 /// The calls that stopped the world, in the plan's order.
-fn write_stops(alloc: Global, out: &mut String, sets_first: bool, tool: u8) -> Result<(), AllocError>
+fn write_stops(
+    alloc: Global,
+    out: &mut String,
+    sets_first: bool,
+    tool: u8,
+) -> Result<(), AllocError>
     ensures { OnOk result (string_bytes out.new ≡ string_bytes out.old ++ spec.stop_lines sets_first tool) }
 {
     if sets_first {
@@ -151,21 +156,36 @@ fn write_records(out: &mut String, program: &Program, records: &[Record]) -> Res
 }
 
 /// The `repr` of a value, with the names of the program's functions.
-fn write_value(alloc: Global, out: &mut String, program: &Program, value: &Value) -> Result<(), AllocError>
+fn write_value(
+    alloc: Global,
+    out: &mut String,
+    program: &Program,
+    value: &Value,
+) -> Result<(), AllocError>
     ensures { OnOk result (string_bytes out.new ≡ string_bytes out.old ++ encode_utf8_all (repr_of program.now.names value.now)) }
 {
     let text = repr(alloc, value, program.names.as_slice())?;
     write_chars(out, text.chars())
 }
 
-fn write_exc(alloc: Global, out: &mut String, program: &Program, exc: &Exc) -> Result<(), AllocError>
+fn write_exc(
+    alloc: Global,
+    out: &mut String,
+    program: &Program,
+    exc: &Exc,
+) -> Result<(), AllocError>
     ensures { OnOk result (string_bytes out.new ≡ string_bytes out.old ++ spec.exc_text program.now exc.now) }
 {
     let value = Value::Exc(exc.copy(alloc)?);
     write_value(alloc, out, program, &value)
 }
 
-fn write_outcome(alloc: Global, out: &mut String, program: &Program, outcome: &Outcome) -> Result<(), AllocError>
+fn write_outcome(
+    alloc: Global,
+    out: &mut String,
+    program: &Program,
+    outcome: &Outcome,
+) -> Result<(), AllocError>
     ensures { OnOk result (string_bytes out.new ≡ string_bytes out.old ++ spec.outcome_text program.now outcome.now) }
 {
     match outcome {
@@ -181,7 +201,12 @@ fn write_outcome(alloc: Global, out: &mut String, program: &Program, outcome: &O
     }
 }
 
-fn write_end(alloc: Global, out: &mut String, program: &Program, report: &ThreadReport) -> Result<(), AllocError>
+fn write_end(
+    alloc: Global,
+    out: &mut String,
+    program: &Program,
+    report: &ThreadReport,
+) -> Result<(), AllocError>
     ensures { OnOk result (string_bytes out.new ≡ string_bytes out.old ++ spec.end_line program.now report.now.steps report.now.outcome) }
 {
     out.push_str("end ")?;
@@ -192,7 +217,12 @@ fn write_end(alloc: Global, out: &mut String, program: &Program, report: &Thread
 }
 
 /// What is written of a thread that ran under a plan, as UTF-8.
-pub fn print_report(alloc: Global, program: &Program, plan: &Plan, report: &ThreadReport) -> Result<Vec<u8>, AllocError>
+pub fn print_report(
+    alloc: Global,
+    program: &Program,
+    plan: &Plan,
+    report: &ThreadReport,
+) -> Result<Vec<u8>, AllocError>
     ensures { IfOk result (λ v. v.items ≡ report_text program.now plan.now report.now.records report.now.steps report.now.outcome) }
 {
     let mut out = String::new(alloc);
