@@ -121,28 +121,28 @@ fn write_record_front(out: &mut String, step: u64, tool: u8) -> Result<(), Alloc
 }
 
 /// A record up to its event.
-fn write_record_head(out: &mut String, record: &Record) -> Result<(), AllocError>
-    ensures { OnOk result (string_bytes out.new ≡ string_bytes out.old ++ spec.record_head record.now) }
+fn write_record_head(out: &mut String, delivery: &Record) -> Result<(), AllocError>
+    ensures { OnOk result (string_bytes out.new ≡ string_bytes out.old ++ spec.record_head delivery.now) }
 {
-    write_record_front(out, record.step, record.tool)?;
-    out.push_str(record.event.name())?;
+    write_record_front(out, delivery.step, delivery.tool)?;
+    out.push_str(delivery.event.name())?;
     out.push_str(" ")
 }
 
 /// What a record has behind its code.
-fn write_arguments(out: &mut String, record: &Record) -> Result<(), AllocError>
-    ensures { OnOk result (string_bytes out.new ≡ string_bytes out.old ++ spec.arguments_text record.now) }
+fn write_arguments(out: &mut String, delivery: &Record) -> Result<(), AllocError>
+    ensures { OnOk result (string_bytes out.new ≡ string_bytes out.old ++ spec.arguments_text delivery.now) }
 {
     out.push_str(" ")?;
-    write_number(out, u64::from(record.at))
+    write_number(out, u64::from(delivery.at))
 }
 
-fn write_record(out: &mut String, program: &Program, record: &Record) -> Result<(), AllocError>
-    ensures { OnOk result (string_bytes out.new ≡ string_bytes out.old ++ spec.record_line program.now record.now) }
+fn write_record(out: &mut String, program: &Program, delivery: &Record) -> Result<(), AllocError>
+    ensures { OnOk result (string_bytes out.new ≡ string_bytes out.old ++ spec.record_line program.now delivery.now) }
 {
-    write_record_head(out, record)?;
-    write_code(out, program, record.code)?;
-    write_arguments(out, record)?;
+    write_record_head(out, delivery)?;
+    write_code(out, program, delivery.code)?;
+    write_arguments(out, delivery)?;
     out.push_str("\n")
 }
 
