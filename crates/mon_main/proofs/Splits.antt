@@ -18,6 +18,7 @@ pub around : (c : ℕ) (bs : List ℕ) (r : Option (Bor (List ℕ) × Bor (List 
 around c bs None h low = slice_split_none (λ b. b == c) bs (none_of c bs (split_parts c bs None h low))
 around c bs (Some x) h low =
     let parts = split_parts c bs (Some x) h low in
-    let whole : bs ≡ x.0.now ++ (c ∷ x.1.now) = parts.0 in
-    ( ap (slice_split (λ b. b == c)) whole ∙ slice_split_at (λ b. b == c) x.0.now c x.1.now (none_of c x.0.now parts.1) (search rules)
-    , omega (arith, ap length whole, length-append x.0.now (c ∷ x.1.now)))
+    let whole : bs ≡ x.0.now ++ (c ∷ x.1.now) = parts.0 in (
+      ap (slice_split (λ b. b == c)) whole ∙ slice_split_at (λ b. b == c) x.0.now c x.1.now (none_of c x.0.now parts.1) (search rules),
+      omega (arith, ap length whole, length-append x.0.now (c ∷ x.1.now)),
+    )

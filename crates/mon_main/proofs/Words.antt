@@ -27,7 +27,7 @@ user_longer key tool name (w ∷ words) h = refl
 pub user_none : (line key rest tool others name more : List ℕ) → words_of line ≡ key ∷ words_of rest → words_of rest ≡ tool ∷ words_of others → words_of others ≡ name ∷ words_of more → Answers {A = User} (Err fault.NotBuilt) (user_of line)
 user_none line key rest tool others name more e f g =
     let none : user_of line ≡ None =
-        ap user_of_words (e ∙ ap (λ l. key ∷ l) (f ∙ ap (λ l. tool ∷ l) g)) ∙ sym (user_longer key tool name (words_of more) (some_word more)) in
+    ap user_of_words (e ∙ ap (λ l. key ∷ l) (f ∙ ap (λ l. tool ∷ l) g)) ∙ sym (user_longer key tool name (words_of more) (some_word more)) in
     let P : Option User → Type 0 = λ due. Answers {A = User} (Err fault.NotBuilt) due in
     subst P (sym none) tt
 
@@ -52,5 +52,5 @@ lines_behind a b c d e f (x ∷ text) h = lines_cut a b c d e f x (lines_in text
 pub lines_none : (t u v w x y z a b c d e f : List ℕ) → lines_in t ≡ a ∷ lines_in u → lines_in u ≡ b ∷ lines_in v → lines_in v ≡ c ∷ lines_in w → lines_in w ≡ d ∷ lines_in x → lines_in x ≡ e ∷ lines_in y → lines_in y ≡ f ∷ lines_in z → 0 < length z → None ≡ six_lines (lines_in t)
 lines_none t u v w x y z a b c d e f one two three four five six h =
     let rest : lines_in t ≡ a ∷ b ∷ c ∷ d ∷ e ∷ f ∷ lines_in z =
-        one ∙ ap (λ l. a ∷ l) (two ∙ ap (λ l. b ∷ l) (three ∙ ap (λ l. c ∷ l) (four ∙ ap (λ l. d ∷ l) (five ∙ ap (λ l. e ∷ l) six)))) in
+    one ∙ ap (λ l. a ∷ l) (two ∙ ap (λ l. b ∷ l) (three ∙ ap (λ l. c ∷ l) (four ∙ ap (λ l. d ∷ l) (five ∙ ap (λ l. e ∷ l) six)))) in
     sym (ap six_lines rest ∙ lines_behind a b c d e f z h)

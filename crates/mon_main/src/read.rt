@@ -302,7 +302,12 @@ fn six_lines(text: &str) -> Option<SixLines<'_>>
 }
 
 /// The plan of the last three lines, behind the others.
-fn plan_with_user(alloc: Global, steps: u64, start: Start, lines: &SixLines<'_>) -> Result<Plan, PlanFault>
+fn plan_with_user(
+    alloc: Global,
+    steps: u64,
+    start: Start,
+    lines: &SixLines<'_>,
+) -> Result<Plan, PlanFault>
     ensures value { Answers result (spec.plan_with_user steps start (spec.user_of lines.now.user) lines.now.first lines.now.second) }
     ensures kept { IfOk result (λ plan. (plan.steps ≡ steps) × (plan.code ≡ start.code) × (plan.args ≡ start.args)) }
     ensures bound { IfOk result (λ plan. plan.tool < 6) }

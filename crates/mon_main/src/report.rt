@@ -82,7 +82,12 @@ fn write_register(alloc: Global, out: &mut String, tool: u8) -> Result<(), Alloc
 }
 
 /// The calls that stopped the world, in the plan's order.
-fn write_stops(alloc: Global, out: &mut String, sets_first: bool, tool: u8) -> Result<(), AllocError>
+fn write_stops(
+    alloc: Global,
+    out: &mut String,
+    sets_first: bool,
+    tool: u8,
+) -> Result<(), AllocError>
     ensures { OnOk result (string_bytes out.new ≡ string_bytes out.old ++ spec.stop_lines sets_first tool) }
 {
     if sets_first {
@@ -116,28 +121,28 @@ fn write_record_front(out: &mut String, step: u64, tool: u8) -> Result<(), Alloc
 }
 
 /// A record up to its event.
-fn write_record_head(out: &mut String, record: &Record) -> Result<(), AllocError>
-    ensures { OnOk result (string_bytes out.new ≡ string_bytes out.old ++ spec.record_head record.now) }
+fn write_record_head(out: &mut String, delivery: &Record) -> Result<(), AllocError>
+    ensures { OnOk result (string_bytes out.new ≡ string_bytes out.old ++ spec.record_head delivery.now) }
 {
-    write_record_front(out, record.step, record.tool)?;
-    out.push_str(record.event.name())?;
+    write_record_front(out, delivery.step, delivery.tool)?;
+    out.push_str(delivery.event.name())?;
     out.push_str(" ")
 }
 
 /// What a record has behind its code.
-fn write_arguments(out: &mut String, record: &Record) -> Result<(), AllocError>
-    ensures { OnOk result (string_bytes out.new ≡ string_bytes out.old ++ spec.arguments_text record.now) }
+fn write_arguments(out: &mut String, delivery: &Record) -> Result<(), AllocError>
+    ensures { OnOk result (string_bytes out.new ≡ string_bytes out.old ++ spec.arguments_text delivery.now) }
 {
     out.push_str(" ")?;
-    write_number(out, u64::from(record.at))
+    write_number(out, u64::from(delivery.at))
 }
 
-fn write_record(out: &mut String, program: &Program, record: &Record) -> Result<(), AllocError>
-    ensures { OnOk result (string_bytes out.new ≡ string_bytes out.old ++ spec.record_line program.now record.now) }
+fn write_record(out: &mut String, program: &Program, delivery: &Record) -> Result<(), AllocError>
+    ensures { OnOk result (string_bytes out.new ≡ string_bytes out.old ++ spec.record_line program.now delivery.now) }
 {
-    write_record_head(out, record)?;
-    write_code(out, program, record.code)?;
-    write_arguments(out, record)?;
+    write_record_head(out, delivery)?;
+    write_code(out, program, delivery.code)?;
+    write_arguments(out, delivery)?;
     out.push_str("\n")
 }
 
@@ -151,21 +156,36 @@ fn write_records(out: &mut String, program: &Program, records: &[Record]) -> Res
 }
 
 /// The `repr` of a value, with the names of the program's functions.
-fn write_value(alloc: Global, out: &mut String, program: &Program, value: &Value) -> Result<(), AllocError>
+fn write_value(
+    alloc: Global,
+    out: &mut String,
+    program: &Program,
+    value: &Value,
+) -> Result<(), AllocError>
     ensures { OnOk result (string_bytes out.new ≡ string_bytes out.old ++ encode_utf8_all (repr_of program.now.names value.now)) }
 {
     let text = repr(alloc, value, program.names.as_slice())?;
     write_chars(out, text.chars())
 }
 
-fn write_exc(alloc: Global, out: &mut String, program: &Program, exc: &Exc) -> Result<(), AllocError>
+fn write_exc(
+    alloc: Global,
+    out: &mut String,
+    program: &Program,
+    exc: &Exc,
+) -> Result<(), AllocError>
     ensures { OnOk result (string_bytes out.new ≡ string_bytes out.old ++ spec.exc_text program.now exc.now) }
 {
     let value = Value::Exc(exc.copy(alloc)?);
     write_value(alloc, out, program, &value)
 }
 
-fn write_outcome(alloc: Global, out: &mut String, program: &Program, outcome: &Outcome) -> Result<(), AllocError>
+fn write_outcome(
+    alloc: Global,
+    out: &mut String,
+    program: &Program,
+    outcome: &Outcome,
+) -> Result<(), AllocError>
     ensures { OnOk result (string_bytes out.new ≡ string_bytes out.old ++ spec.outcome_text program.now outcome.now) }
 {
     match outcome {
@@ -181,7 +201,12 @@ fn write_outcome(alloc: Global, out: &mut String, program: &Program, outcome: &O
     }
 }
 
-fn write_end(alloc: Global, out: &mut String, program: &Program, report: &ThreadReport) -> Result<(), AllocError>
+fn write_end(
+    alloc: Global,
+    out: &mut String,
+    program: &Program,
+    report: &ThreadReport,
+) -> Result<(), AllocError>
     ensures { OnOk result (string_bytes out.new ≡ string_bytes out.old ++ spec.end_line program.now report.now.steps report.now.outcome) }
 {
     out.push_str("end ")?;
@@ -192,7 +217,12 @@ fn write_end(alloc: Global, out: &mut String, program: &Program, report: &Thread
 }
 
 /// What is written of a thread that ran under a plan, as UTF-8.
-pub fn print_report(alloc: Global, program: &Program, plan: &Plan, report: &ThreadReport) -> Result<Vec<u8>, AllocError>
+pub fn print_report(
+    alloc: Global,
+    program: &Program,
+    plan: &Plan,
+    report: &ThreadReport,
+) -> Result<Vec<u8>, AllocError>
     ensures { IfOk result (λ v. v.items ≡ report_text program.now plan.now report.now.records report.now.steps report.now.outcome) }
 {
     let mut out = String::new(alloc);
