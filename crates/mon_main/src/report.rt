@@ -10,16 +10,9 @@ use crate::plan::Plan;
 use crate::read::{register_call, set_call};
 use mon_code::Program;
 use mon_recorders::{Outcome, Record, ThreadReport};
-use mon_values::text::Text;
+use mon_values::print::repr;
 use mon_values::value::{Exc, Value};
 use std::alloc::{AllocError, Global};
-
-/// The `repr` of a value.
-fn repr(alloc: Global, value: &Value, names: &[Text]) -> Result<Text, AllocError>
-    ensures { IfOk result (λ text. text ≡ repr_of names.now value.now) }
-{
-    Ok(Text::new(alloc))
-}
 
 fn write_chars(out: &mut String, chars: &[char]) -> Result<(), AllocError>
     ensures { OnOk result (string_bytes out.new ≡ string_bytes out.old ++ encode_utf8_all chars.now) }
