@@ -1,3 +1,5 @@
+ghost use Rattle.std.specs.Prelude.{◌≡◌, ◌∷◌, [], IfOk, Some, true, false};
+
 use crate::{Plan, PlanFault, print_report, read_plan};
 use mon_code::{Code, Location, Program};
 use mon_events::Event;
@@ -13,7 +15,9 @@ use std::test::Fail;
 /// A text, and what it is read as.
 type Row = (&'static str, &'static str);
 
-fn code(alloc: Global) -> Result<Code, AllocError> {
+fn code(alloc: Global) -> Result<Code, AllocError>
+    ensures { IfOk result (λ c. c ≡ record { parameters = 1; locals = (110 ∷ []) ∷ []; constants = []; first = 0; locations = record { argument = 0; line = Some 2; is_marked = true; depth = 0 } ∷ record { argument = 0; line = Some 2; is_marked = false; depth = 1 } ∷ [] }) }
+{
     let mut locals = Items::new(alloc);
     locals.push(Text::from_ascii(alloc, "n")?)?;
     let load = Location {
