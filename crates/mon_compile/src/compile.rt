@@ -64,3 +64,6 @@ pub fn compiled_is_checked()
     ensures { (f : FunctionOf) → IsSound f → statements f.body ≤ 8191 → IsChecked (compiled f) }
 {
 }
+
+#[cfg(test)]
+mod tests;

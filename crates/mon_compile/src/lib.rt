@@ -4,8 +4,14 @@
 mod compile;
 mod emit;
 mod instruction;
+mod line;
 mod locals;
+mod names;
+mod nest;
 mod place;
+mod stack;
+pub mod text;
 pub mod tree;
+mod word;
 
 pub use compile::{compile_function, compiled_is_checked};
