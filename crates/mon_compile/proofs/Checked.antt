@@ -1,9 +1,9 @@
 -- The program of a sound function that is not too long is checked.
-use Rattle.std.proofs.Common.{◌≡◌, ℕ, zero, suc, ◌+◌, ◌-◌, ◌*◌, ◌<◌, ◌≤◌, IsTrue, Bool, true, false, List, [], ◌∷◌, ◌++◌, length, Option, Some, None, refl, sym, ap, ◌∙◌, subst, arith, append_assoc, length-append}
+use Rattle.std.proofs.Common.{◌≡◌, ℕ, zero, suc, ◌+◌, ◌-◌, ◌<◌, ◌≤◌, IsTrue, List, [], ◌∷◌, ◌++◌, length, Option, Some, None, refl, sym, ap, ◌∙◌, subst, arith, append_assoc, length-append}
 use Rattle.std.specs.Prelude.{slice_get}
 use Rattle.mon_code.specs.Checked as checked
 use Rattle.mon_code.specs.Operators.{arith_number, cmp_number}
-use Rattle.mon_code.specs.Programs.{op_at, location_at}
+use Rattle.mon_code.specs.Programs.{location_at}
 use Rattle.mon_code.specs.declared.program.Code.{Code}
 use Rattle.mon_code.specs.declared.program.Location.{Location}
 use Rattle.mon_values.specs.declared.operator.ArithOp.{ArithOp}
@@ -16,7 +16,7 @@ use Rattle.mon_compile.specs.declared.tree.Function.{Function}
 use Rattle.mon_compile.specs.Compiled.{op_of, argument_of, constants_in, constants_of, bases_of, locations_of, unmarked, marks, marked, compiled}
 use Rattle.mon_compile.specs.Scheme.{put, above, no_line, block_code, function_code}
 use Rattle.mon_compile.specs.Sound.{IsSound, locals_of, reads, statements}
-use Rattle.mon_compile.proofs.Fits.{Table, Records, effect, HasLocal, Lands, Fits, AllFit, Stands, Good, records_as, stands_as, before, join, fits_plain, fits_return}
+use Rattle.mon_compile.proofs.Fits.{Table, Records, effect, HasLocal, Lands, Fits, AllFit, Stands, records_as, before, join, fits_plain, fits_return}
 use Rattle.mon_compile.proofs.Keeps.{block_kept}
 use Rattle.mon_compile.proofs.Lengths.{function_short}
 use Rattle.mon_compile.proofs.Marks.{Ops, ops_self, op_there, effect_same, mark_same}
@@ -70,11 +70,13 @@ function_fits f sound =
     let a : Agrees t 0 code = agrees_self [] code in
     let a2 : Agrees t 1 (body ++ end) = agrees_as t (0 + 1) 1 (body ++ end) a.1 refl in
     let a3 = agrees_behind t 1 body end a2 in
-    let g = block_kept t locals f.body (all_contained locals (reads f.body) sound.bound) (targets_in f) 1 (omega arith) (agrees_before t 1 body end 0 a2 a3.0) in
-    (fits_plain t n 0 0 0 no_line Resume 0 refl tt g.start,
-    join t n 1 body end g.fits
-        (fits_plain t n (1 + length body) 0 1 no_line (LoadConst value.None) 0 refl tt a3.1.0,
-        (fits_return t n (1 + length body + 1) (above 1 no_line) 0 refl, tt)))
+    let g = block_kept t locals f.body (all_contained locals (reads f.body) sound.bound) (targets_in f) 1 (omega arith) (agrees_before t 1 body end 0 a2 a3.0) in (
+      fits_plain t n 0 0 0 no_line Resume 0 refl tt g.start,
+      join t n 1 body end g.fits (
+        fits_plain t n (1 + length body) 0 1 no_line (LoadConst value.None) 0 refl tt a3.1.0,
+        (fits_return t n (1 + length body + 1) (above 1 no_line) 0 refl, tt),
+      ),
+    )
 
 arith_few : (op : ArithOp) → arith_number op < 5
 arith_few ArithOp.Add = omega arith
@@ -131,10 +133,11 @@ all_fit bases c t z shows at k before (i ∷ code) ops room f =
     let m = marked bases c in
     let few : k + (length (constants_in i.operation) + length (constants_of code)) ≤ length c.constants = omega (arith, length-append (constants_in i.operation) (constants_of code)) in
     let l : Location = record { argument = argument_of k i.operation; line = i.spot.line; is_marked = checked.is_marked bases c at before i.spot.line; depth = i.spot.depth } in
-    let here : checked.Fits m at (op_of i.operation) l = fits_in m t shows at k i l refl refl (omega arith) f.0 in
-    (subst (λ o. checked.FitsOp m at o l) (sym (op_there bases m at (op_of i.operation) z ops.0)) here,
-    mark_same bases c at before i.spot.line,
-    all_fit bases c t z shows (at + 1) (k + length (constants_in i.operation)) (Some i.spot.line) code ops.1 (omega arith) f.1)
+    let here : checked.Fits m at (op_of i.operation) l = fits_in m t shows at k i l refl refl (omega arith) f.0 in (
+      subst (λ o. checked.FitsOp m at o l) (sym (op_there bases m at (op_of i.operation) z ops.0)) here,
+      mark_same bases c at before i.spot.line,
+      all_fit bases c t z shows (at + 1) (k + length (constants_in i.operation)) (Some i.spot.line) code ops.1 (omega arith) f.1,
+    )
 
 shown : (bases : List ℕ) (c : Code) (at k : ℕ) (before : Option (Option ℕ)) (code : List Instruction) (n : ℕ) → checked.depth_in (slice_get (marks bases c at before (locations_of k code)) n) ≡ table_of code n
 shown bases c at k before [] n = refl

@@ -7,7 +7,7 @@ use Rattle.mon_compile.specs.declared.tree.Statement.TheFolds.{fold-Statement, f
 use Rattle.mon_compile.specs.declared.tree.Statement.TheOpen.{Statement-F}
 use Rattle.mon_compile.specs.declared.tree.Statement.TheViews.{While, rolls-Assign, rolls-Return, rolls-While}
 use Rattle.mon_compile.specs.declared.tree.Test.{Test}
-use Rattle.mon_compile.specs.Scheme.{FromAt, statement_step, statement_code, ending_code, while_code, expression_code, test_code, block_code, local_number}
+use Rattle.mon_compile.specs.Scheme.{FromAt, statement_step, statement_code, while_code, test_code, block_code}
 use Rattle.mon_compile.specs.Sound.{expression_reads, test_reads, targets, targets_step, reads, reads_step, statements, statements_step}
 
 pub assign_is : (locals : List (List ℕ)) (line : ℕ) (name : List ℕ) (x : Expression) → statement_code locals (Assign line name x) ≡ statement_step locals (Statement-F.Assign line name x)

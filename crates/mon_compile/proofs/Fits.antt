@@ -1,9 +1,9 @@
 -- Pieces of code that stand in a code, and what is recorded there.
-use Rattle.std.proofs.Common.{◌≡◌, ℕ, ◌+◌, ◌-◌, ◌<◌, ◌≤◌, IsTrue, Bool, true, false, List, [], ◌∷◌, ◌++◌, length, Option, Some, None, refl, sym, ap, ◌∙◌, arith}
+use Rattle.std.proofs.Common.{◌≡◌, ℕ, ◌+◌, ◌-◌, ◌<◌, ◌≤◌, IsTrue, false, List, [], ◌∷◌, ◌++◌, length, Option, Some, None, refl, arith}
 use Rattle.mon_code.specs.Checked.{Effect, plain, effect_of}
 use Rattle.mon_compile.specs.declared.instruction.Instruction.{Instruction}
 use Rattle.mon_compile.specs.declared.instruction.Operation.{Operation}
-use Rattle.mon_compile.specs.declared.instruction.Operation.TheVariants.{Resume, LoadConst, LoadFast, StoreFast, BinaryOp, CompareOp, JumpBackward, PopJumpIfFalse, ReturnValue}
+use Rattle.mon_compile.specs.declared.instruction.Operation.TheVariants.{LoadFast, StoreFast, JumpBackward, PopJumpIfFalse, ReturnValue}
 use Rattle.mon_compile.specs.declared.instruction.Spot.{Spot}
 use Rattle.mon_compile.specs.Scheme.{put}
 use Rattle.mon_compile.specs.Compiled.{op_of, argument_of}

@@ -1,5 +1,5 @@
 -- What holds of each kind of statement, where it holds of the statements inside, holds of all.
-use Rattle.std.proofs.Common.{◌≡◌, ℕ, List, [], ◌∷◌, map, sym, subst}
+use Rattle.std.proofs.Common.{ℕ, List, [], ◌∷◌, map, sym, subst}
 use Rattle.mon_compile.specs.declared.tree.Expression.{Expression}
 use Rattle.mon_compile.specs.declared.tree.Statement.{Statement, Assign, Return}
 use Rattle.mon_compile.specs.declared.tree.Statement.TheFolds.{ind-Statement, map-Statement}

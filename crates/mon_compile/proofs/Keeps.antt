@@ -1,8 +1,7 @@
 -- The code of each tree keeps the depths.
-use Rattle.std.proofs.Common.{◌≡◌, ℕ, ◌+◌, ◌<◌, ◌≤◌, List, [], ◌∷◌, ◌++◌, length, refl, sym, ap, ◌∙◌, subst, arith}
+use Rattle.std.proofs.Common.{◌≡◌, ℕ, ◌+◌, ◌<◌, List, [], ◌∷◌, ◌++◌, length, refl, sym, subst, arith}
 use Rattle.mon_code.specs.Checked.{plain}
 use Rattle.mon_values.specs.declared.value.Value as value
-use Rattle.mon_compile.specs.declared.instruction.Instruction.{Instruction}
 use Rattle.mon_compile.specs.declared.instruction.Operation.{Operation}
 use Rattle.mon_compile.specs.declared.instruction.Operation.TheVariants.{LoadConst, LoadFast, StoreFast, BinaryOp, CompareOp, JumpBackward, PopJumpIfFalse, ReturnValue}
 use Rattle.mon_compile.specs.declared.instruction.Spot.{Spot}
@@ -10,14 +9,13 @@ use Rattle.mon_compile.specs.declared.tree.Atom.{Atom}
 use Rattle.mon_compile.specs.declared.tree.Atom.TheVariants as atom
 use Rattle.mon_compile.specs.declared.tree.Expression.{Expression}
 use Rattle.mon_compile.specs.declared.tree.Expression.TheVariants as expression
-use Rattle.mon_compile.specs.declared.tree.Statement.{Statement, Assign, Return}
-use Rattle.mon_compile.specs.declared.tree.Statement.TheViews.{While}
+use Rattle.mon_compile.specs.declared.tree.Statement.{Statement}
 use Rattle.mon_compile.specs.declared.tree.Test.{Test}
 use Rattle.mon_compile.specs.declared.tree.Test.TheVariants as test
 use Rattle.mon_compile.specs.Scheme.{FromAt, Coder, put, above, at_line, no_line, local_number, two_code, atom_code, expression_code, test_code, ending_code, while_code, statement_code, block_code}
 use Rattle.mon_compile.specs.Sound.{atom_reads, expression_reads, test_reads, reads, targets}
 use Rattle.mon_compile.proofs.Equations.{assign_is, return_is, while_is, read_in, assign_reads, return_reads, while_reads, target_in, assign_targets, while_targets}
-use Rattle.mon_compile.proofs.Fits.{Table, Records, effect, HasLocal, Fits, AllFit, Stands, Good, records_as, behind, before, join, fits_plain, fits_test, fits_back, fits_return}
+use Rattle.mon_compile.proofs.Fits.{Table, Records, effect, HasLocal, Fits, Stands, Good, records_as, behind, before, join, fits_plain, fits_test, fits_back, fits_return}
 use Rattle.mon_compile.proofs.Induction.{Each, statement_induction, each}
 use Rattle.mon_compile.proofs.Membership.{AllIn, front, back}
 
@@ -124,17 +122,17 @@ each_kept t locals (s ∷ body) h r k at p w =
 statement_kept : (t : Table) (locals : Names) (s : Statement) → Keeps t locals s
 statement_kept t locals = statement_induction (Keeps t locals)
     (λ line name x r k.
-        let r' : AllIn locals (expression_reads x) = subst (AllIn locals) (assign_reads line name x) r in
-        let k' : AllIn locals (name ∷ []) = subst (AllIn locals) (assign_targets line name x) k in
-        subst (Kept t locals) (sym (assign_is locals line name x)) (assign_kept t locals line (local_number locals name) (expression_code locals x) k'.0 (expression_pushes t locals x r')))
+    let r' : AllIn locals (expression_reads x) = subst (AllIn locals) (assign_reads line name x) r in
+    let k' : AllIn locals (name ∷ []) = subst (AllIn locals) (assign_targets line name x) k in
+    subst (Kept t locals) (sym (assign_is locals line name x)) (assign_kept t locals line (local_number locals name) (expression_code locals x) k'.0 (expression_pushes t locals x r')))
     (λ line x r k.
-        let r' : AllIn locals (expression_reads x) = subst (AllIn locals) (return_reads line x) r in
-        subst (Kept t locals) (sym (return_is locals line x)) (return_kept t locals line (expression_code locals x) (expression_pushes t locals x r')))
+    let r' : AllIn locals (expression_reads x) = subst (AllIn locals) (return_reads line x) r in
+    subst (Kept t locals) (sym (return_is locals line x)) (return_kept t locals line (expression_code locals x) (expression_pushes t locals x r')))
     (λ line c body h r k.
-        let r' : AllIn locals (test_reads c ++ reads body) = subst (AllIn locals) (while_reads line c body) r in
-        let k' : AllIn locals (targets body) = subst (AllIn locals) (while_targets line c body) k in
-        subst (Kept t locals) (sym (while_is locals line c body))
-            (while_kept t locals line (test_code locals c) (block_code locals body) (test_pushes t locals c (front locals (test_reads c) (reads body) r')) (each_kept t locals body h (back locals (test_reads c) (reads body) r') k')))
+    let r' : AllIn locals (test_reads c ++ reads body) = subst (AllIn locals) (while_reads line c body) r in
+    let k' : AllIn locals (targets body) = subst (AllIn locals) (while_targets line c body) k in
+    subst (Kept t locals) (sym (while_is locals line c body))
+    (while_kept t locals line (test_code locals c) (block_code locals body) (test_pushes t locals c (front locals (test_reads c) (reads body) r')) (each_kept t locals body h (back locals (test_reads c) (reads body) r') k')))
 
 pub block_kept : (t : Table) (locals : Names) (body : List Statement) → AllIn locals (reads body) → AllIn locals (targets body) → Kept t locals (block_code locals body)
 block_kept t locals body = each_kept t locals body (each (Keeps t locals) (statement_kept t locals) body)

@@ -1,7 +1,6 @@
 -- How long the code of a tree is.
-use Rattle.std.proofs.Common.{◌≡◌, ℕ, ◌+◌, ◌*◌, ◌≤◌, List, [], ◌∷◌, ◌++◌, length, map, refl, sym, ap, ◌∙◌, subst, arith, length-append}
+use Rattle.std.proofs.Common.{◌≡◌, ℕ, ◌+◌, ◌*◌, ◌≤◌, List, [], ◌∷◌, ◌++◌, length, refl, arith, length-append}
 use Rattle.mon_values.specs.declared.value.Value as value
-use Rattle.mon_compile.specs.declared.instruction.Instruction.{Instruction}
 use Rattle.mon_compile.specs.declared.instruction.Operation.{Operation}
 use Rattle.mon_compile.specs.declared.instruction.Spot.{Spot}
 use Rattle.mon_compile.specs.declared.tree.Atom.{Atom}
@@ -9,11 +8,10 @@ use Rattle.mon_compile.specs.declared.tree.Atom.TheVariants as atom
 use Rattle.mon_compile.specs.declared.tree.Expression.{Expression}
 use Rattle.mon_compile.specs.declared.tree.Expression.TheVariants as expression
 use Rattle.mon_compile.specs.declared.tree.Function.{Function}
-use Rattle.mon_compile.specs.declared.tree.Statement.{Statement, Assign, Return}
-use Rattle.mon_compile.specs.declared.tree.Statement.TheViews.{While}
+use Rattle.mon_compile.specs.declared.tree.Statement.{Statement}
 use Rattle.mon_compile.specs.declared.tree.Test.{Test}
 use Rattle.mon_compile.specs.declared.tree.Test.TheVariants as test
-use Rattle.mon_compile.specs.Scheme.{FromAt, Coder, put, above, at_line, no_line, two_code, atom_code, expression_code, test_code, ending_code, while_code, block, statement_code, block_code, function_code}
+use Rattle.mon_compile.specs.Scheme.{put, above, at_line, no_line, two_code, atom_code, expression_code, test_code, ending_code, while_code, statement_code, block_code, function_code}
 use Rattle.mon_compile.specs.Sound.{locals_of, statements}
 use Rattle.mon_compile.proofs.Equations.{assign_is, return_is, while_is, size, assign_size, return_size, while_size, statements_cons}
 use Rattle.mon_compile.proofs.Induction.{Each, statement_induction, each}

@@ -1,5 +1,5 @@
 -- A small function, by index.
-use Rattle.std.proofs.Common.{◌≡◌, ℕ, List, [], ◌∷◌, Option, Some, None, Bool, true, false, refl, sym, ap, ◌∙◌, ◌++◌, length, ◌+◌}
+use Rattle.std.proofs.Common.{◌≡◌, ℕ, List, [], ◌∷◌, Option, Some, None, Bool, true, false, ap, ◌∙◌, ◌++◌, length, ◌+◌}
 use Rattle.std.specs.Prelude.{pos}
 use Rattle.mon_code.specs.Programs.{Parts}
 use Rattle.mon_code.specs.declared.program.Code.{Code}
@@ -23,8 +23,10 @@ use Rattle.mon_compile.proofs.Equations.{assign_is, return_is, while_is, assign_
 -- the names `f`, `i` and `n`
 abbrev f : List ℕ
 f = 102 ∷ []
+
 abbrev i : List ℕ
 i = 105 ∷ []
+
 abbrev n : List ℕ
 n = 110 ∷ []
 
@@ -35,20 +37,24 @@ n = 110 ∷ []
 --     return i
 abbrev is_less : Test
 is_less = Test.Compare (Atom.Name i) CmpOp.Lt (Atom.Name n)
+
 abbrev sum_of_one : Expression
 sum_of_one = Expression.Binary (Atom.Name i) ArithOp.Add (Atom.Number (pos 1))
+
 abbrev start : Statement
 start = Assign 2 i (Expression.Atom (Atom.Number (pos 0)))
+
 abbrev turns : Statement
 turns = While 3 is_less (Assign 4 i sum_of_one ∷ [])
+
 abbrev answer : Statement
 answer = Return 5 (Expression.Atom (Atom.Name i))
+
 abbrev counts : Function
 counts = record { name = f; parameters = n ∷ []; body = start ∷ turns ∷ answer ∷ [] }
 
 counts_locals : locals_of counts ≡ n ∷ i ∷ []
 counts_locals = simp (assign_targets, return_targets, while_targets)
-
 
 abbrev locals : List (List ℕ)
 locals = n ∷ i ∷ []
@@ -69,6 +75,7 @@ counts_loop =
 
 abbrev first : FromAt
 first = ending_code 2 (expression_code locals (Expression.Atom (Atom.Number (pos 0)))) (Operation.StoreFast 1)
+
 abbrev last : FromAt
 last = ending_code 5 (expression_code locals (Expression.Atom (Atom.Name i))) Operation.ReturnValue
 
@@ -101,31 +108,31 @@ abbrev row : ℕ → Option ℕ → Bool → ℕ → Location
 row argument line is_marked depth = record { argument = argument; line = line; is_marked = is_marked; depth = depth }
 
 counts_compiled : compiled counts ≡ record {
-    names = f ∷ [];
-    codes = record {
-        parameters = 1;
-        locals = n ∷ i ∷ [];
-        constants = value.Int (pos 0) ∷ value.Int (pos 1) ∷ value.None ∷ [];
-        first = 0;
-        locations = row 0 None false 0
-            ∷ row 0 (Some 2) true 0
-            ∷ row 1 (Some 2) false 1
-            ∷ row 1 (Some 3) true 0
-            ∷ row 0 (Some 3) false 1
-            ∷ row 2 (Some 3) false 2
-            ∷ row 12 (Some 3) false 1
-            ∷ row 1 (Some 4) true 0
-            ∷ row 1 (Some 4) false 1
-            ∷ row 0 (Some 4) false 2
-            ∷ row 1 (Some 4) false 1
-            ∷ row 3 None false 0
-            ∷ row 1 (Some 5) true 0
-            ∷ row 0 (Some 5) false 1
-            ∷ row 2 None false 0
-            ∷ row 0 None false 1
-            ∷ [];
-      }
-      ∷ [];
-    bases = 1 ∷ 2 ∷ 4 ∷ 3 ∷ 3 ∷ 9 ∷ 22 ∷ 3 ∷ 2 ∷ 8 ∷ 4 ∷ 21 ∷ 3 ∷ 29 ∷ 2 ∷ 29 ∷ [];
+  names = f ∷ [];
+  codes = record {
+    parameters = 1;
+    locals = n ∷ i ∷ [];
+    constants = value.Int (pos 0) ∷ value.Int (pos 1) ∷ value.None ∷ [];
+    first = 0;
+    locations = row 0 None false 0
+        ∷ row 0 (Some 2) true 0
+        ∷ row 1 (Some 2) false 1
+        ∷ row 1 (Some 3) true 0
+        ∷ row 0 (Some 3) false 1
+        ∷ row 2 (Some 3) false 2
+        ∷ row 12 (Some 3) false 1
+        ∷ row 1 (Some 4) true 0
+        ∷ row 1 (Some 4) false 1
+        ∷ row 0 (Some 4) false 2
+        ∷ row 1 (Some 4) false 1
+        ∷ row 3 None false 0
+        ∷ row 1 (Some 5) true 0
+        ∷ row 0 (Some 5) false 1
+        ∷ row 2 None false 0
+        ∷ row 0 None false 1
+        ∷ [];
   }
+      ∷ [];
+  bases = 1 ∷ 2 ∷ 4 ∷ 3 ∷ 3 ∷ 9 ∷ 22 ∷ 3 ∷ 2 ∷ 8 ∷ 4 ∷ 21 ∷ 3 ∷ 29 ∷ 2 ∷ 29 ∷ [];
+}
 counts_compiled = compiled_is counts _ _ counts_code counts_locals

@@ -1,11 +1,11 @@
 -- The marks of a code do not change what is jumped to.
-use Rattle.std.proofs.Common.{◌≡◌, ℕ, ◌+◌, ◌<◌, ◌≤◌, ◌&&◌, ◌||◌, Bool, true, false, not, List, [], ◌∷◌, ◌++◌, length, Option, Some, None, refl, sym, ap, ◌∙◌, subst, arith, append_assoc, length-append}
+use Rattle.std.proofs.Common.{◌≡◌, ℕ, ◌+◌, ◌&&◌, ◌||◌, Bool, not, List, [], ◌∷◌, ◌++◌, length, Option, Some, None, refl, sym, ap, ◌∙◌, subst, arith, append_assoc, length-append}
 use Rattle.std.specs.Prelude.{slice_get, is_some}
 use Rattle.mon_code.specs.Checked as checked
 use Rattle.mon_code.specs.Programs.{op_in, op_at}
 use Rattle.mon_code.specs.declared.program.Code.{Code}
 use Rattle.mon_code.specs.declared.program.Location.{Location}
-use Rattle.mon_events.specs.Ops.{number_of} 
+use Rattle.mon_events.specs.Ops.{number_of}
 use Rattle.mon_events.specs.declared.op.Op.{Op}
 use Rattle.mon_compile.specs.declared.instruction.Instruction.{Instruction}
 use Rattle.mon_compile.specs.declared.instruction.Operation.{Operation}

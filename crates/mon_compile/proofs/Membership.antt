@@ -1,5 +1,5 @@
 -- Names that are among the locals have a number there.
-use Rattle.std.proofs.Common.{◌≡◌, ℕ, zero, suc, ◌+◌, ◌<◌, ◌≤◌, Bool, true, false, if◌then◌else◌, ◌&&◌, ◌||◌, ◌==◌, List, [], ◌∷◌, ◌++◌, length, refl, sym, ap, ◌∙◌, subst, arith, length-append, get_or, eq-eqb}
+use Rattle.std.proofs.Common.{◌≡◌, ℕ, zero, suc, ◌+◌, ◌<◌, ◌≤◌, Bool, true, false, if◌then◌else◌, ◌||◌, List, [], ◌∷◌, ◌++◌, length, refl, sym, subst, arith, length-append, get_or, eq-eqb}
 use Rattle.std.specs.List.{All, Contains}
 use Rattle.mon_code.specs.Programs.{is_text}
 use Rattle.mon_compile.specs.declared.tree.Function.{Function}
@@ -74,7 +74,7 @@ in_with : (names more : Names) (name : List ℕ) → In names name → In (with_
 in_with names [] name h = h
 in_with names (n ∷ more) name h =
     elim (has_name names n) as (λ b. In (if b then with_names names more else with_names (names ++ n ∷ []) more) name)
-        [ true ↦ in_with names more name h | false ↦ in_with (names ++ n ∷ []) more name (in_append names (n ∷ []) name h) ]
+    [ true ↦ in_with names more name h | false ↦ in_with (names ++ n ∷ []) more name (in_append names (n ∷ []) name h) ]
 
 with_in : (names more : Names) → AllIn (with_names names more) more
 with_in names [] = tt
@@ -90,7 +90,7 @@ longer names [] = omega arith
 longer names (n ∷ more) =
     let new : length names ≤ length (with_names (names ++ n ∷ []) more) = omega (arith, longer (names ++ n ∷ []) more, length-append names (n ∷ [])) in
     elim (has_name names n) as (λ b. length names ≤ length (if b then with_names names more else with_names (names ++ n ∷ []) more))
-        [ true ↦ longer names more | false ↦ new ]
+    [ true ↦ longer names more | false ↦ new ]
 
 pub targets_in : (f : Function) → AllIn (locals_of f) (targets f.body)
 targets_in f = with_in f.parameters (targets f.body)

@@ -1,15 +1,15 @@
 -- Which indexes are jumped to, and the locations, instruction by instruction.
-use Rattle.std.proofs.Common.{◌≡◌, ℕ, zero, suc, ◌+◌, ◌<◌, ◌≤◌, ◌||◌, ◌&&◌, ◌==◌, Bool, true, false, not, List, [], ◌∷◌, ◌++◌, length, drop, get_or, Option, Some, None, refl, sym, ap, ◌∙◌, subst, arith, append_assoc, inl, inr}
+use Rattle.std.proofs.Common.{◌≡◌, ℕ, zero, suc, ◌+◌, ◌<◌, ◌≤◌, ◌||◌, Bool, true, false, List, [], ◌∷◌, ◌++◌, length, drop, get_or, Option, Some, None, refl, sym, ap, ◌∙◌, arith, append_assoc, inl, inr}
 use Rattle.std.proofs.lemmas.Bool.{ne_eqb}
 use Rattle.std.proofs.lemmas.Bool.Decides.{eqb_tells}
-use Rattle.std.specs.Prelude.{slice_get, slice_set, slice_index_or, replicate}
-use Rattle.std.proofs.lemmas.List.{drop_more, length-set, get_or-set_same, get_or-set_other, length-replicate, get_or-replicate}
+use Rattle.std.specs.Prelude.{slice_set, replicate}
+use Rattle.std.proofs.lemmas.List.{drop_more, length-set, get_or-set_same, get_or-set_other, get_or-replicate}
 use Rattle.std.proofs.Math.Seq.{drop-nil}
 use Rattle.std.proofs.lemmas.Option.{slice_get-get_or}
 use Rattle.mon_code.specs.Checked.{jumps_to}
 use Rattle.mon_code.specs.declared.program.Location.{Location}
 use Rattle.mon_compile.specs.declared.instruction.Instruction.{Instruction}
-use Rattle.mon_compile.specs.Compiled.{constants_in, constants_of, bases_of, op_of}
+use Rattle.mon_compile.specs.Compiled.{constants_in}
 use Rattle.mon_compile.specs.Placing.{destination, is_target, Flags, Flagged, location_of, mark, placed}
 
 or_false : (b : Bool) → (b || false) ≡ b
@@ -29,17 +29,18 @@ flagged_none flags = record { same = refl; flags = λ at h. sym (or_false (get_o
 
 pub flagged_past : (flags : List Bool) (to : ℕ) → length flags ≤ to → Flagged flags flags (Some to)
 flagged_past flags to k = record {
-    same = refl;
-    flags = λ at h. sym (ap (λ b. get_or flags at false || b) (ne_eqb to at (λ e. omega (arith, e))) ∙ or_false (get_or flags at false));
-  }
+  same = refl;
+  flags = λ at h. sym (ap (λ b. get_or flags at false || b) (ne_eqb to at (λ e. omega (arith, e))) ∙ or_false (get_or flags at false));
+}
 
 pub flagged_set : (flags : List Bool) (to : ℕ) → to < length flags → Flagged flags (slice_set flags to true) (Some to)
 flagged_set flags to k = record {
-    same = length-set flags to true;
-    flags = λ at h. elim (eqb_tells to at) [
-        inl p ↦ ap (λ n. get_or (slice_set flags to true) n false) (sym p.1) ∙ get_or-set_same flags to true false k ∙ sym (ap (λ b. get_or flags at false || b) p.0 ∙ or_true (get_or flags at false))
-      | inr p ↦ get_or-set_other flags to at true false (λ e. p.1 (sym e)) ∙ sym (ap (λ b. get_or flags at false || b) p.0 ∙ or_false (get_or flags at false)) ];
-  }
+  same = length-set flags to true;
+  flags = λ at h. elim (eqb_tells to at) [
+    | inl p ↦ ap (λ n. get_or (slice_set flags to true) n false) (sym p.1) ∙ get_or-set_same flags to true false k ∙ sym (ap (λ b. get_or flags at false || b) p.0 ∙ or_true (get_or flags at false))
+    | inr p ↦ get_or-set_other flags to at true false (λ e. p.1 (sym e)) ∙ sym (ap (λ b. get_or flags at false || b) p.0 ∙ or_false (get_or flags at false))
+  ];
+}
 
 next : (code : List Instruction) (i : ℕ) (x : Instruction) → i < length code → x ≡ get_or code i x → drop i code ≡ x ∷ drop (i + 1) code
 next code i x h e = drop_more code i x h ∙ ap (λ y. y ∷ drop (i + 1) code) (sym e)

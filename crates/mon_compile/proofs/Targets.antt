@@ -1,5 +1,5 @@
 -- The targets of a block, statement by statement.
-use Rattle.std.proofs.Common.{◌≡◌, ℕ, List, [], ◌∷◌, ◌++◌, Bool, true, false, if◌then◌else◌, sym, ap, ◌∙◌, refl, append_assoc}
+use Rattle.std.proofs.Common.{◌≡◌, ℕ, List, [], ◌∷◌, ◌++◌, true, false, if◌then◌else◌, sym, ap, ◌∙◌, refl}
 use Rattle.std.proofs.lemmas.List.{append-nil}
 use Rattle.mon_compile.specs.declared.tree.Expression.{Expression}
 use Rattle.mon_compile.specs.declared.tree.Statement.{Statement, Assign, Return}
@@ -30,7 +30,7 @@ with_names-append : (names a b : Names) → with_names names (a ++ b) ≡ with_n
 with_names-append names [] b = refl
 with_names-append names (n ∷ a) b =
     elim (has_name names n) as (λ known. (if known then with_names names (a ++ b) else with_names (names ++ n ∷ []) (a ++ b)) ≡ with_names (if known then with_names names a else with_names (names ++ n ∷ []) a) b)
-        [ true ↦ with_names-append names a b | false ↦ with_names-append (names ++ n ∷ []) a b ]
+    [ true ↦ with_names-append names a b | false ↦ with_names-append (names ++ n ∷ []) a b ]
 
 pub targets_cons : (names : Names) (s : Statement) (rest : List Statement) → with_names names (targets (s ∷ rest)) ≡ with_names (with_names names (targets (s ∷ []))) (targets rest)
 targets_cons names s rest =

@@ -1,5 +1,5 @@
 -- The program of a function, from its instructions.
-use Rattle.std.specs.Prelude.{ℕ, ◌+◌, List, [], ◌∷◌, ◌++◌, length, map, Option, Some, None, false}
+use Rattle.std.specs.Prelude.{ℕ, ◌+◌, List, [], ◌∷◌, ◌++◌, length, Option, Some, None, false}
 use Rattle.mon_code.specs.Programs.{Parts}
 use Rattle.mon_code.specs.Checked.{is_marked}
 use Rattle.mon_code.specs.Operators.{arith_number, cmp_number}
@@ -61,12 +61,12 @@ locations_of before (i ∷ code) =
 
 abbrev pub unmarked : Function → Code
 unmarked f = record {
-    parameters = length f.parameters;
-    locals = locals_of f;
-    constants = constants_of (function_code f);
-    first = 0;
-    locations = locations_of 0 (function_code f);
-  }
+  parameters = length f.parameters;
+  locals = locals_of f;
+  constants = constants_of (function_code f);
+  first = 0;
+  locations = locations_of 0 (function_code f);
+}
 
 -- locations from an index on, behind one with the line `before`, each with the mark that it has in a code
 abbrev pub marks : List ℕ → Code → ℕ → Option (Option ℕ) → List Location → List Location

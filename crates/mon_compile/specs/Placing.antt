@@ -1,5 +1,5 @@
 -- Locations, where it is known which indexes are jumped to.
-use Rattle.std.specs.Prelude.{◌≡◌, ℕ, ◌+◌, ◌<◌, ◌&&◌, ◌||◌, Bool, true, false, not, is_some, List, [], ◌∷◌, length, slice_get, slice_index_or, Option, Some, None}
+use Rattle.std.specs.Prelude.{◌≡◌, ℕ, ◌+◌, ◌<◌, ◌&&◌, ◌||◌, Bool, false, not, is_some, List, [], ◌∷◌, length, slice_get, slice_index_or, Option, Some}
 use Rattle.mon_code.specs.Checked.{effect_of, jumps_to, follows_line}
 use Rattle.mon_code.specs.declared.program.Location.{Location}
 use Rattle.mon_compile.specs.declared.instruction.Instruction.{Instruction}

@@ -1,5 +1,5 @@
 -- The code of a tree: the instructions of each construct, by the index at which they begin.
-use Rattle.std.specs.Prelude.{ℕ, ◌+◌, List, [], ◌∷◌, ◌++◌, length, map, Option, Some, None, if◌then◌else◌}
+use Rattle.std.specs.Prelude.{ℕ, ◌+◌, List, [], ◌∷◌, ◌++◌, length, map, Some, None, if◌then◌else◌}
 use Rattle.mon_code.specs.Programs.{is_text}
 use Rattle.mon_values.specs.declared.value.Value as value
 use Rattle.mon_compile.specs.declared.instruction.Instruction.{Instruction}

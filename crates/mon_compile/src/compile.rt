@@ -16,7 +16,10 @@ use sqlite_items::Items;
 use std::alloc::{AllocError, Global};
 
 /// The program of a function, with the base opcodes of its locations.
-pub fn compile_function(alloc: Global, function: &Function) -> Result<(Program, Vec<u8>), AllocError>
+pub fn compile_function(
+    alloc: Global,
+    function: &Function,
+) -> Result<(Program, Vec<u8>), AllocError>
     requires sound { IsSound function.now }
     requires small { statements function.now.body ≤ 8191 }
     ensures { IfOk result (λ r. (r.0 ≡ compiled function.now) × (r.1.items ≡ (compiled function.now).bases)) }
@@ -32,7 +35,12 @@ pub fn compile_function(alloc: Global, function: &Function) -> Result<(Program, 
 }
 
 // The code of a function with these instructions.
-fn code(alloc: Global, function: &Function, locals: Items<Text>, instructions: &[Instruction]) -> Result<Code, AllocError>
+fn code(
+    alloc: Global,
+    function: &Function,
+    locals: Items<Text>,
+    instructions: &[Instruction],
+) -> Result<Code, AllocError>
     requires locals { locals ≡ locals_of function.now }
     requires instructions { instructions.now ≡ function_code function.now }
     requires few { length locals ≤ 255 }
@@ -62,8 +70,7 @@ fn one<T: Drop>(alloc: Global, item: T) -> Result<Items<T>, AllocError>
 /// operand stack is the recorded one, and every operand and destination exists.
 pub fn compiled_is_checked()
     ensures { (f : FunctionOf) → IsSound f → statements f.body ≤ 8191 → IsChecked (compiled f) }
-{
-}
+{}
 
 #[cfg(test)]
 mod tests;

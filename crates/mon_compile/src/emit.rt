@@ -2,7 +2,7 @@ ghost use Rattle.std.specs.Prelude.{◌≡◌, ◌+◌, ◌*◌, ◌<◌, ◌≤
 ghost use Rattle.mon_compile.specs.Scheme as scheme;
 ghost use Rattle.mon_compile.specs.Sound.{locals_of, statements};
 
-use crate::instruction::{above, at_line, no_line, Instruction, Operation, Spot};
+use crate::instruction::{Instruction, Operation, Spot, above, at_line, no_line};
 use crate::locals::local_number;
 use crate::tree::{Atom, Expression, Function, Statement, Test};
 use mon_values::text::Text;
@@ -11,7 +11,11 @@ use sqlite_items::Items;
 use std::alloc::{AllocError, Global};
 
 /// The instructions of a function with these locals.
-pub fn emit_function(alloc: Global, locals: &[Text], function: &Function) -> Result<Items<Instruction>, AllocError>
+pub fn emit_function(
+    alloc: Global,
+    locals: &[Text],
+    function: &Function,
+) -> Result<Items<Instruction>, AllocError>
     requires locals { locals.now ≡ locals_of function.now }
     requires few { length locals.now ≤ 255 }
     requires small { statements function.now.body ≤ 8191 }
@@ -32,18 +36,34 @@ fn put(code: &mut Items<Instruction>, spot: Spot, operation: Operation) -> Resul
     code.push(Instruction { operation, spot })
 }
 
-fn emit_atom(code: &mut Items<Instruction>, locals: &[Text], spot: Spot, atom: &Atom) -> Result<(), AllocError>
+fn emit_atom(
+    code: &mut Items<Instruction>,
+    locals: &[Text],
+    spot: Spot,
+    atom: &Atom,
+) -> Result<(), AllocError>
     requires { length locals.now ≤ 255 }
     ensures { OnOk result (code.new ≡ code.old ++ scheme.atom_code locals.now atom.now spot (length code.old)) }
 {
     match atom {
-        Atom::Name(name) => put(code, spot, Operation::LoadFast(local_number(locals, name) as u32)),
+        Atom::Name(name) => put(
+            code,
+            spot,
+            Operation::LoadFast(local_number(locals, name) as u32),
+        ),
         Atom::Number(n) => put(code, spot, Operation::LoadConst(Value::Int(*n))),
     }
 }
 
 // Two operands and then an operation.
-fn emit_two(code: &mut Items<Instruction>, locals: &[Text], spot: Spot, a: &Atom, b: &Atom, operation: Operation) -> Result<(), AllocError>
+fn emit_two(
+    code: &mut Items<Instruction>,
+    locals: &[Text],
+    spot: Spot,
+    a: &Atom,
+    b: &Atom,
+    operation: Operation,
+) -> Result<(), AllocError>
     requires few { length locals.now ≤ 255 }
     requires shallow { 2 + spot.depth < 2 ^ 32 }
     ensures { OnOk result (code.new ≡ code.old ++ scheme.two_code (scheme.atom_code locals.now a.now) (scheme.atom_code locals.now b.now) operation spot (length code.old)) }
@@ -53,18 +73,35 @@ fn emit_two(code: &mut Items<Instruction>, locals: &[Text], spot: Spot, a: &Atom
     put(code, above(2, spot), operation)
 }
 
-fn emit_expression(code: &mut Items<Instruction>, locals: &[Text], spot: Spot, x: &Expression) -> Result<(), AllocError>
+fn emit_expression(
+    code: &mut Items<Instruction>,
+    locals: &[Text],
+    spot: Spot,
+    x: &Expression,
+) -> Result<(), AllocError>
     requires few { length locals.now ≤ 255 }
     requires shallow { 2 + spot.depth < 2 ^ 32 }
     ensures { OnOk result (code.new ≡ code.old ++ scheme.expression_code locals.now x.now spot (length code.old)) }
 {
     match x {
         Expression::Atom(a) => emit_atom(code, locals, spot, a),
-        Expression::Binary(a, op, b) => emit_two(code, locals, spot, a, b, Operation::BinaryOp(*op)),
+        Expression::Binary(a, op, b) => emit_two(
+            code,
+            locals,
+            spot,
+            a,
+            b,
+            Operation::BinaryOp(*op),
+        ),
     }
 }
 
-fn emit_test(code: &mut Items<Instruction>, locals: &[Text], spot: Spot, c: &Test) -> Result<(), AllocError>
+fn emit_test(
+    code: &mut Items<Instruction>,
+    locals: &[Text],
+    spot: Spot,
+    c: &Test,
+) -> Result<(), AllocError>
     requires few { length locals.now ≤ 255 }
     requires shallow { 2 + spot.depth < 2 ^ 32 }
     ensures { OnOk result (code.new ≡ code.old ++ scheme.test_code locals.now c.now spot (length code.old)) }
@@ -76,7 +113,11 @@ fn emit_test(code: &mut Items<Instruction>, locals: &[Text], spot: Spot, c: &Tes
 }
 
 #[cycle(emit_statement)]
-fn emit_statement(code: &mut Items<Instruction>, locals: &[Text], statement: &Statement) -> Result<(), AllocError>
+fn emit_statement(
+    code: &mut Items<Instruction>,
+    locals: &[Text],
+    statement: &Statement,
+) -> Result<(), AllocError>
     requires few { length locals.now ≤ 255 }
     requires room { length code.old + 5 * statements (statement.now ∷ []) ≤ 65536 }
     ensures { OnOk result (code.new ≡ code.old ++ scheme.statement_code locals.now statement.now (length code.old)) }
@@ -85,7 +126,11 @@ fn emit_statement(code: &mut Items<Instruction>, locals: &[Text], statement: &St
         Statement::Assign(line, name, x) => {
             let spot = at_line(*line);
             emit_expression(code, locals, spot, x)?;
-            put(code, above(1, spot), Operation::StoreFast(local_number(locals, name) as u32))
+            put(
+                code,
+                above(1, spot),
+                Operation::StoreFast(local_number(locals, name) as u32),
+            )
         }
         Statement::Return(line, x) => {
             let spot = at_line(*line);
@@ -97,7 +142,11 @@ fn emit_statement(code: &mut Items<Instruction>, locals: &[Text], statement: &St
 }
 
 #[cycle(emit_statement)]
-fn emit_block(code: &mut Items<Instruction>, locals: &[Text], body: &[Statement]) -> Result<(), AllocError>
+fn emit_block(
+    code: &mut Items<Instruction>,
+    locals: &[Text],
+    body: &[Statement],
+) -> Result<(), AllocError>
     requires few { length locals.now ≤ 255 }
     requires room { length code.old + 5 * statements body.now ≤ 65536 }
     ensures { OnOk result (code.new ≡ code.old ++ scheme.block_code locals.now body.now (length code.old)) }
@@ -109,7 +158,13 @@ fn emit_block(code: &mut Items<Instruction>, locals: &[Text], body: &[Statement]
 }
 
 #[cycle(emit_statement)]
-fn emit_while(code: &mut Items<Instruction>, locals: &[Text], line: u32, c: &Test, body: &[Statement]) -> Result<(), AllocError>
+fn emit_while(
+    code: &mut Items<Instruction>,
+    locals: &[Text],
+    line: u32,
+    c: &Test,
+    body: &[Statement],
+) -> Result<(), AllocError>
     requires few { length locals.now ≤ 255 }
     requires room { length code.old + 5 * (1 + statements body.now) ≤ 65536 }
     ensures { OnOk result (code.new ≡ code.old ++ scheme.while_code line (scheme.test_code locals.now c.now) (scheme.block_code locals.now body.now) (length code.old)) }

@@ -34,7 +34,11 @@ fn add_targets(alloc: Global, names: &mut Items<Text>, body: &[Statement]) -> Re
 
 #[cycle(add_targets)]
 #[tactic(auto, using(crate::proofs::Targets::assign_target, crate::proofs::Targets::return_target, crate::proofs::Targets::while_target))]
-fn add_target(alloc: Global, names: &mut Items<Text>, statement: &Statement) -> Result<(), AllocError>
+fn add_target(
+    alloc: Global,
+    names: &mut Items<Text>,
+    statement: &Statement,
+) -> Result<(), AllocError>
     ensures { OnOk result (names.new ≡ sound.with_names names.old (sound.targets (statement.now ∷ []))) }
 {
     match statement {

@@ -21,7 +21,11 @@ pub fn constants(alloc: Global, code: &[Instruction]) -> Result<Items<Value>, Al
     Ok(constants)
 }
 
-fn add_constant(alloc: Global, constants: &mut Items<Value>, operation: &Operation) -> Result<(), AllocError>
+fn add_constant(
+    alloc: Global,
+    constants: &mut Items<Value>,
+    operation: &Operation,
+) -> Result<(), AllocError>
     ensures { OnOk result (constants.new ≡ constants.old ++ spec.constants_in operation.now) }
 {
     match operation {

@@ -99,7 +99,8 @@ fn a_loop_is_listed(rt: HostRuntime) -> Result<(), Fail> {
 
 #[test]
 fn nested_loops_are_listed(rt: HostRuntime) -> Result<(), Fail> {
-    let text = b"def g(n):\n    k = 3\n    while n > 0:\n        while k != n:\n            k = k + 1\n            while 1:\n                n = n - k\n        n = n - 1\n    return k * n\n";
+    let text =
+        b"def g(n):\n    k = 3\n    while n > 0:\n        while k != n:\n            k = k + 1\n            while 1:\n                n = n - k\n        n = n - 1\n    return k * n\n";
     assert!(rt; is_listed(rt.alloc(), text, NESTED.as_slice())?);
     Ok(())
 }

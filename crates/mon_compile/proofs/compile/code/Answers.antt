@@ -14,4 +14,4 @@ overflow_cast-result c =
 pub returns : goal.returns
 returns c =
     code_is c.args.function.now c.len.result c.args.locals c.in_ok-constants.constants c.in_ok-locations.locations c.args.instructions.now
-        c.len.ensures c.requires.locals c.requires.instructions c.in_ok-constants.ensures c.in_ok-locations.ensures
+    c.len.ensures c.requires.locals c.requires.instructions c.in_ok-constants.ensures c.in_ok-locations.ensures

@@ -10,9 +10,9 @@ emit_block-emit_statement-requires t c =
 
 pub emit_block-loop-statement-preserved : goal.emit_block-loop-statement-preserved
 emit_block-loop-statement-preserved t c = record {
-    emitted = block_next _ _ _ _ _ _ _ c.loop-statement-test.true c.statement-item.is c.in_ok-emit_statement.ensures c.loop-statement.invariant.emitted;
-    room = room_next _ _ _ _ _ _ _ c.loop-statement-test.true c.statement-item.is c.in_ok-emit_statement.ensures c.loop-statement.invariant.room;
-  }
+  emitted = block_next _ _ _ _ _ _ _ c.loop-statement-test.true c.statement-item.is c.in_ok-emit_statement.ensures c.loop-statement.invariant.emitted;
+  room = room_next _ _ _ _ _ _ _ c.loop-statement-test.true c.statement-item.is c.in_ok-emit_statement.ensures c.loop-statement.invariant.room;
+}
 
 pub emit_while-overflow_cast-end : goal.emit_while-overflow_cast-end
 emit_while-overflow_cast-end t c =
@@ -22,4 +22,4 @@ emit_while-overflow_cast-end t c =
 pub emit_while-returns : goal.emit_while-returns
 emit_while-returns t c =
     while_next c.args.line (scheme.test_code c.args.locals.now c.args.c.now) (scheme.block_code c.args.locals.now c.args.body.now) _ _ _ _ _ _ _ _ _ _ _ _ _ c.at_line-spot.ensures c.no_line.ensures c.above-2.ensures
-        c.len-start.ensures c.in_ok-emit_test.ensures c.len-hole.ensures c.in_ok-put.ensures c.in_ok-emit_block.ensures c.in_ok-put-2.ensures c.len-end.ensures c.set.ensures
+    c.len-start.ensures c.in_ok-emit_test.ensures c.len-hole.ensures c.in_ok-put.ensures c.in_ok-emit_block.ensures c.in_ok-put-2.ensures c.len-end.ensures c.set.ensures
