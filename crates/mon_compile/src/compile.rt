@@ -71,3 +71,6 @@ fn one<T: Drop>(alloc: Global, item: T) -> Result<Items<T>, AllocError>
 pub fn compiled_is_checked()
     ensures { (f : FunctionOf) → IsSound f → statements f.body ≤ 8191 → IsChecked (compiled f) }
 {}
+
+#[cfg(test)]
+mod tests;
