@@ -1,5 +1,7 @@
-ghost use Rattle.std.specs.Prelude.{◌≡◌, ◌+◌, ◌<◌, ◌++◌, length, OnOk, IfOk};
-ghost use Rattle.mon_machine.specs.Serial.{of_locations, of_codes};
+ghost use Rattle.std.specs.Prelude.{◌≡◌, ◌<◌, ◌++◌, length, map, OnOk, IfOk};
+ghost use Rattle.mon_words.specs.History.{base_in};
+ghost use Rattle.mon_words.specs.Told.{first_told};
+ghost use Rattle.mon_machine.specs.Serial.{of_locations, of_codes, HasLineWants};
 ghost use Rattle.mon_main.specs.Plans.{plan_fits};
 ghost use Rattle.mon_main.specs.Serial.{serial_of, line_word};
 
@@ -7,7 +9,7 @@ use crate::plan::Plan;
 use mon_code::{Code, Location, Program};
 use mon_interp::Thread;
 use mon_recorders::ThreadReport;
-use mon_words::{Parts, PlainWords, pack};
+use mon_words::{Handle, Parts, PlainWords, pack};
 use std::alloc::{AllocError, Global};
 
 // The first word of a location.
@@ -42,21 +44,24 @@ fn push_words(
     Ok(())
 }
 
-// The first words of all locations.
-fn first_words(
+// The words that a run begins with, for a tool that listens to LINE everywhere.
+pub(crate) fn first_words(
     alloc: Global,
     program: &Program,
     bases: &[u8],
     tool: u8,
-) -> Result<Vec<u64>, AllocError>
-    requires { tool < 6 }
-    ensures { IfOk result (λ words. words.items ≡ of_codes (line_word bases.now tool) 0 program.now.codes) }
+) -> Result<PlainWords, AllocError>
+    requires tool { tool < 6 }
+    requires bases { bases.now ≡ program.now.bases }
+    ensures told { IfOk result (λ words. ⟦<PlainWords as Handle>⟧.told words ≡ first_told (of_codes (line_word program.now.bases tool) 0 program.now.codes)) }
+    ensures wants { IfOk result (λ words. HasLineWants program.now tool (⟦<PlainWords as Handle>⟧.told words).first) }
+    ensures bases { IfOk result (λ words. map base_in (⟦<PlainWords as Handle>⟧.told words).first.cells ≡ program.now.bases) }
 {
-    let mut words = Vec::new(alloc);
+    let mut words = Vec::with_capacity(alloc, program.locations() as usize)?;
     for code in program.codes.as_slice() {
         push_words(&mut words, bases, tool, code)?;
     }
-    Ok(words)
+    Ok(PlainWords::new(words))
 }
 
 /// Runs the plan's thread over words of its own, and reports it.
@@ -73,10 +78,9 @@ pub fn run_serial(
     let Some(code) = program.code(plan.code) else {
         unreachable!()
     };
-    let words = first_words(alloc, program, bases, plan.tool)?;
-    let mut handle = PlainWords::new(words);
+    let mut words = first_words(alloc, program, bases, plan.tool)?;
     let mut thread = Thread::begin(alloc, code, plan.code, plan.args.as_slice())?;
-    match thread.advance(program, &mut handle, plan.steps) {
+    match thread.advance(program, &mut words, plan.steps) {
         Ok(_) => Ok(thread.finish()),
         Err(_) => Err(AllocError),
     }
