@@ -8,7 +8,7 @@ use std::alloc::Global;
 
 /// The program of a text, with the base opcode of each of its locations. `NotBuilt` comes exactly where the text is not
 /// of the first form.
-#[tactic(auto, using(crate::proofs::Sources::compiled_text, crate::proofs::Sources::no_program))]
+#[tactic(auto, using(crate::proofs::Sources::no_program))]
 pub fn compile_text(alloc: Global, text: &[u8]) -> Result<(Program, Vec<u8>), TextFault>
     ensures { AnswersProgram result (program_of text.now) }
 {

@@ -1,5 +1,5 @@
 -- The serial run, by what its thread did.
-use Rattle.std.proofs.Common.{◌≡◌, ◌⊎◌, ℕ, zero, suc, ◌+◌, ◌*◌, ◌/◌, ◌%◌, ◌<◌, ◌≤◌, Bool, true, false, List, [], ◌∷◌, ◌++◌, length, map, drop, refl, sym, ap, ◌∙◌, arith, subst, append_assoc, append-nil, length-append, inl, inr}
+use Rattle.std.proofs.Common.{◌≡◌, ◌⊎◌, ℕ, zero, suc, ◌+◌, ◌*◌, ◌/◌, ◌%◌, ◌<◌, ◌≤◌, Bool, true, false, List, [], ◌∷◌, ◌++◌, length, map, drop, get_or, refl, sym, ap, ◌∙◌, arith, subst, append_assoc, append-nil, length-append, inl, inr}
 use Rattle.std.specs.Prelude.{Option, Some, None, slice_get, slice_index, if◌then◌else◌, ◌^◌}
 use Rattle.std.proofs.Common.{drop-cons}
 use Rattle.std.proofs.lemmas.List.{drop_all}
@@ -24,7 +24,12 @@ use Rattle.mon_machine.proofs.Calls.{heard_by_wants}
 use Rattle.mon_machine.proofs.Runs.{steps_done_goes, steps_done_all, after_steps_all}
 use Rattle.mon_machine.proofs.Heard.{line_records_done}
 use Rattle.mon_machine.proofs.Numbers.{wants_of_words, length_of_codes}
-use Rattle.mon_main.specs.Serial.{Serial, serial_from, line_word}
+use Rattle.mon_values.specs.declared.value.Value.{Int}
+use Rattle.mon_interp.specs.declared.thread.Stop.{Stop}
+use Rattle.mon_interp.specs.declared.thread.Stop.TheVariants.{Spent, Ended}
+use Rattle.mon_main.specs.declared.plan.Plan.{Plan}
+use Rattle.mon_main.specs.Plans.{parameters_of}
+use Rattle.mon_main.specs.Serial.{Serial, serial_from, serial_in, serial_of, line_word}
 
 -- a thread that did what it could of so many steps, over words that want LINE for one tool, did the serial run
 pub serial_ran : (p : Parts) (k : ℕ) (c : Code) (args : List Value) (tool : ℕ) (b : Board) (old new : Progress) (steps : ℕ) → IsCall p k c args → HasLineWants p tool b → old ≡ record { state = start c k args; records = []; steps = 0 }
@@ -79,12 +84,14 @@ module _ (bases : List ℕ) (tool : ℕ) (small : (n : ℕ) → slice_index base
   bases_in-append (x ∷ xs) ys = ap (λ (r : List ℕ). base_in (cell_of x) ∷ r) (bases_in-append xs ys)
 
   of_some : (from : ℕ) (ls : List Location) → from + length ls ≤ length bases → map base_in (map cell_of (of_locations (line_word bases tool) from ls)) ++ drop (from + length ls) bases ≡ drop from bases
-  of_some from [] h = ap (λ n. drop n bases) (omega arith)
+  of_some from [] h = let none : from + 0 ≡ from = omega arith in ap (λ n. drop n bases) none
   of_some from (l ∷ ls) h =
       let here : base_in (cell_of (line_word bases tool from l)) ≡ slice_index bases from = (parts_of_line bases tool from l small within).2 in
+      let count : from + length (l ∷ ls) ≡ from + 1 + length ls = omega arith in
       let rest : map base_in (map cell_of (of_locations (line_word bases tool) (from + 1) ls)) ++ drop (from + length (l ∷ ls)) bases ≡ drop (from + 1) bases
-      = ap (λ n. map base_in (map cell_of (of_locations (line_word bases tool) (from + 1) ls)) ++ drop n bases) (omega arith) ∙ of_some (from + 1) ls (omega arith) in
-      let next : drop (from + 1) bases ≡ drop (suc from) bases = ap (λ n. drop n bases) (omega arith) in
+      = ap (λ n. map base_in (map cell_of (of_locations (line_word bases tool) (from + 1) ls)) ++ drop n bases) count ∙ of_some (from + 1) ls (omega arith) in
+      let one : from + 1 ≡ suc from = omega arith in
+      let next : drop (from + 1) bases ≡ drop (suc from) bases = ap (λ n. drop n bases) one in
       (λ i. here i ∷ (rest ∙ next) i) ∙ sym (drop-cons bases from 0 (omega arith))
 
   of_all : (from : ℕ) (cs : List Code) → AllCodes bases from cs → map base_in (map cell_of (of_codes (line_word bases tool) from cs)) ≡ drop from bases
@@ -98,3 +105,41 @@ module _ (bases : List ℕ) (tool : ℕ) (small : (n : ℕ) → slice_index base
 -- and have its base opcodes
 pub first_words-bases : (p : Parts) (tool : ℕ) → IsChecked p → tool < 6 → ((n : ℕ) → slice_index p.bases n < 256) → map base_in (map cell_of (of_codes (line_word p.bases tool) 0 p.codes)) ≡ p.bases
 first_words-bases p tool checked within small = of_all p.bases tool small within 0 p.codes checked.codes
+
+length_locations : (g : ℕ → Location → ℕ) (from : ℕ) (ls : List Location) → length (of_locations g from ls) ≡ length ls
+length_locations g from [] = refl
+length_locations g from (l ∷ ls) = omega (arith, length_locations g (from + 1) ls)
+
+-- the words of one code more
+pub next_codes : (g : ℕ → Location → ℕ) (words new : List ℕ) (codes : List Code) (k : ℕ) (c : Code) (all : List ℕ) → k < length codes → c ≡ get_or codes k c → new ≡ words ++ of_locations g (length words) c.locations
+    → words ++ of_codes g (length words) (drop k codes) ≡ all → new ++ of_codes g (length new) (drop (k + 1) codes) ≡ all
+next_codes g words new codes k c all h is made before =
+    let here : List ℕ = of_locations g (length words) c.locations in
+    let rest : List Code = drop (k + 1) codes in
+    let count : length new ≡ length words + length c.locations = omega (arith, ap length made, length-append words here, length_locations g (length words) c.locations) in
+    let one : suc k ≡ k + 1 = omega arith in
+    let split : drop k codes ≡ c ∷ rest = drop-cons codes k c h ∙ ap (λ n. get_or codes k c ∷ drop n codes) one ∙ ap (λ (d : Code). d ∷ rest) (sym is) in
+    ap (λ (l : List ℕ). l ++ of_codes g (length new) rest) made
+    ∙ ap (λ n. (words ++ here) ++ of_codes g n rest) count
+    ∙ append_assoc words here (of_codes g (length words + length c.locations) rest)
+    ∙ ap (λ (cs : List Code). words ++ of_codes g (length words) cs) (sym split)
+    ∙ before
+
+-- the words of all codes
+pub all_codes : (g : ℕ → Location → ℕ) (words : List ℕ) (codes : List Code) (k : ℕ) (all : List ℕ) → length codes ≤ k → words ++ of_codes g (length words) (drop k codes) ≡ all → words ≡ all
+all_codes g words codes k all h e = sym (append-nil words) ∙ sym (ap (λ (cs : List Code). words ++ of_codes g (length words) cs) (drop_all k codes h)) ∙ e
+
+-- the serial run of a plan whose code stands in the program
+pub serial_found : (p : Parts) (plan : Plan) (c : Code) → slice_get p.codes plan.code ≡ Some c → serial_of p plan ≡ serial_from p plan.tool plan.steps (start c plan.code (map Int plan.args))
+unfolding serial_of
+serial_found p plan c e = ap (serial_in p plan) e
+
+-- where an advance stopped, the thread has ended or did all steps
+pub stops : {P Q : Type 0} (stop : Stop) → (stop ≡ Spent → Q) → (stop ≡ Ended → P) → P ⊎ Q
+stops Spent spent ended = inr (spent refl)
+stops Ended spent ended = inl (ended refl)
+
+-- a plan that fits gives a code as many arguments as it has parameters
+pub fits_parameters : (o : Option Code) (c : Code) (n : ℕ) → o ≡ Some c → parameters_of o ≡ Some n → n ≡ c.parameters
+fits_parameters None c n e h = absurd (cc)
+fits_parameters (Some d) c n e h = cc

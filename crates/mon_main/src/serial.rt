@@ -1,4 +1,5 @@
 ghost use Rattle.std.specs.Prelude.{◌≡◌, ◌<◌, ◌++◌, length, map, OnOk, IfOk};
+ghost use Rattle.mon_code.specs.Checked.{IsChecked};
 ghost use Rattle.mon_words.specs.History.{base_in};
 ghost use Rattle.mon_words.specs.Told.{first_told};
 ghost use Rattle.mon_machine.specs.Serial.{of_locations, of_codes, HasLineWants};
@@ -53,6 +54,7 @@ pub(crate) fn first_words(
 ) -> Result<PlainWords, AllocError>
     requires tool { tool < 6 }
     requires bases { bases.now ≡ program.now.bases }
+    ensures checked { IsChecked program.now }
     ensures told { IfOk result (λ words. ⟦<PlainWords as Handle>⟧.told words ≡ first_told (of_codes (line_word program.now.bases tool) 0 program.now.codes)) }
     ensures wants { IfOk result (λ words. HasLineWants program.now tool (⟦<PlainWords as Handle>⟧.told words).first) }
     ensures bases { IfOk result (λ words. map base_in (⟦<PlainWords as Handle>⟧.told words).first.cells ≡ program.now.bases) }
