@@ -1,15 +1,14 @@
 -- Places of a range, and the integers there.
-use Rattle.std.proofs.Common.{◌≡◌, ℕ, zero, suc, ◌+◌, ◌-◌, ◌*◌, ◌/◌, ◌%◌, ◌^◌, subst, ◌<◌, ◌≤◌, min, Option, Some, None, Bool, true, false, Result, Ok, Err, refl, ap, sym, ◌∙◌, arith, inl, inr, w64}
-use Rattle.std.specs.Prelude.{ℤ, pos, negsuc, ◌+ℤ◌, ◌-ℤ◌, ◌*ℤ◌, ◌≤ℤ◌, ◌<ℤ◌, neg_ℤ, FitsSigned, nat_lt}
+use Rattle.std.proofs.Common.{◌≡◌, ℕ, zero, suc, ◌+◌, ◌*◌, ◌/◌, ◌%◌, ◌^◌, ◌<◌, ◌≤◌, Some, ap, sym, ◌∙◌, arith, inl, inr, w64}
+use Rattle.std.specs.Prelude.{ℤ, pos, negsuc, ◌+ℤ◌, ◌-ℤ◌, ◌*ℤ◌, ◌≤ℤ◌, ◌<ℤ◌, neg_ℤ, FitsSigned}
 use Rattle.std.specs.Int.{div_ceil, cast_signed, cast_unsigned, int_wrap}
 use Rattle.std.proofs.lemmas.Bool.{cases_eq}
 use Rattle.std.proofs.lemmas.Bool.Decides.{nat_tests}
 use Rattle.std.proofs.lemmas.Int.{ints, int_wrap_fits, wrapping_add-bits, wrapping_mul_is, int_wrap-add_right, int_wrap-mul_left, to_z-of_z}
 use Rattle.std.proofs.lemmas.Nat.{div-add-mod', mod_below, mul-le}
 use Rattle.std.proofs.Math.Nat.{suc-mul, mod-eq_of_lt}
-use Rattle.mon_values.specs.declared.fault.Trouble.{Trouble}
 use Rattle.mon_values.specs.Integers.{times}
-use Rattle.mon_values.specs.Indexing.{place_of, place_at}
+use Rattle.mon_values.specs.Indexing.{place_of}
 use Rattle.mon_values.specs.Ranges.{range_length, range_item}
 
 pub place_below : (index : ℤ) (count place : ℕ) → place_of index count ≡ Some place → place < count

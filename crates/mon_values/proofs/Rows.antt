@@ -1,7 +1,7 @@
 -- Worked rows of the definitions.
-use Rattle.std.proofs.Common.{◌≡◌, ℕ, List, [], ◌∷◌, Option, None, Some, Ok, Err, Bool, true, false, refl}
-use Rattle.std.specs.Prelude.{ℤ, pos, negsuc, codes}
-use Rattle.mon_values.specs.declared.operator.ArithOp.TheVariants.{Add, FloorDiv, Mod}
+use Rattle.std.proofs.Common.{◌≡◌, [], ◌∷◌, None, Some, Ok, Err, true, false, refl}
+use Rattle.std.specs.Prelude.{pos, negsuc, codes}
+use Rattle.mon_values.specs.declared.operator.ArithOp.TheVariants.{FloorDiv, Mod}
 use Rattle.mon_values.specs.declared.value.Value.{Int}
 use Rattle.mon_values.specs.Integers.{floor_div, floor_mod}
 use Rattle.mon_values.specs.Arithmetic.{of_integers}
@@ -10,7 +10,7 @@ use Rattle.mon_values.specs.declared.compare.Verdict.TheVariants.{Less}
 use Rattle.mon_values.specs.Containing.{stands_in}
 use Rattle.mon_values.specs.Indexing.{place_of}
 use Rattle.mon_values.specs.Classes.{is_subclass}
-use Rattle.mon_values.specs.Printing.{alike, text_repr, tuple_repr, range_repr}
+use Rattle.mon_values.specs.Printing.{alike, text_repr, tuple_repr}
 use Rattle.mon_values.specs.Ranges.{range_length, is_range_item}
 use Rattle.mon_values.specs.Troubles as t
 

@@ -1,5 +1,5 @@
 -- The tables past their last rows.
-use Rattle.std.proofs.Common.{◌≡◌, ◌≢◌, ℕ, ◌<◌, ◌≤◌, ◌++◌, ◌+◌, min, take, drop, get_or, map, append-nil, append_assoc, ◌∙◌, add-one, drop-cons, length-drop, sym, List, [], ◌∷◌, length, Option, Some, None, zero, suc, refl, arith, ap}
+use Rattle.std.proofs.Common.{◌≡◌, ◌≢◌, ℕ, ◌<◌, ◌≤◌, ◌++◌, ◌+◌, min, take, drop, get_or, map, append-nil, append_assoc, ◌∙◌, add-one, drop-cons, length-drop, sym, List, [], ◌∷◌, length, None, zero, suc, refl, arith, ap}
 use Rattle.std.specs.Prelude.{slice_get, codes, ℤ, pos, negsuc}
 use Rattle.std.specs.Fmt.{signed_decimal}
 use Rattle.std.proofs.lemmas.List.{take_all}
@@ -8,7 +8,7 @@ use Rattle.mon_values.specs.declared.value.Value.{Value}
 use Rattle.mon_values.specs.declared.fault.Trouble.{Trouble}
 use Rattle.mon_values.specs.Printing.{Printed, step_repr, joined}
 use Rattle.mon_values.specs.Classes.{classes, class_or, class_name, parent_of, builtin_names, builtin_name, name_or}
-use Rattle.mon_values.specs.Troubles.{rows, row_or, trouble, row_of, Fixed}
+use Rattle.mon_values.specs.Troubles.{rows, row_or, row_of, Fixed}
 
 pub get_past : {X : Type 0} (xs : List X) (i : ℕ) → length xs ≤ i → slice_get xs i ≡ None
 get_past [] i h = refl

@@ -1,5 +1,5 @@
 -- The exception classes: their names and parents, by number.
-use Rattle.std.specs.Prelude.{ℕ, zero, suc, List, [], ◌∷◌, Option, Some, None, Bool, true, false, ◌==◌, ◌||◌, slice_get, codes}
+use Rattle.std.specs.Prelude.{ℕ, zero, suc, List, [], ◌∷◌, Option, Some, None, Bool, false, ◌==◌, ◌||◌, slice_get, codes}
 use Rattle.std.specs.Option.{option_map_or}
 
 pub record Class : Type 0 where

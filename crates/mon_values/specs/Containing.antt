@@ -1,12 +1,12 @@
 -- What `in` answers.
-use Rattle.std.specs.Prelude.{ℕ, zero, suc, ◌==◌, List, [], ◌∷◌, Option, Some, None, Bool, true, false, ◌&&◌, ◌||◌, ℤ, Result, Ok, Err}
+use Rattle.std.specs.Prelude.{ℕ, ◌==◌, List, [], ◌∷◌, Option, Some, None, Bool, true, false, ◌&&◌, ◌||◌, ℤ, Result, Ok, Err}
 use Rattle.std.specs.List.{list_any}
 use Rattle.mon_values.specs.declared.value.Value.{Value}
 use Rattle.mon_values.specs.declared.value.Value.TheOpen.{Value-F}
 use Rattle.mon_values.specs.declared.value.Value.TheViews.{out-Value}
 use Rattle.mon_values.specs.declared.value.Exc.{Exc}
 use Rattle.mon_values.specs.declared.fault.Trouble.{Trouble}
-use Rattle.mon_values.specs.Arithmetic.{Operand, Number, Chars, Items, Other, operand, integer}
+use Rattle.mon_values.specs.Arithmetic.{Operand, Chars, operand, integer}
 use Rattle.mon_values.specs.Comparing.{equals}
 use Rattle.mon_values.specs.Ranges.{is_range_item}
 use Rattle.mon_values.specs.Troubles.{not_iterable, wrong_argument}

@@ -1,5 +1,5 @@
 -- What a subscript gives.
-use Rattle.std.specs.Prelude.{ℕ, zero, suc, ◌-◌, List, [], ◌∷◌, length, Option, Some, None, Bool, true, false, nat_lt, ℤ, pos, negsuc, Result, Ok, Err, slice_get, if◌then◌else◌}
+use Rattle.std.specs.Prelude.{ℕ, suc, ◌-◌, List, [], ◌∷◌, length, Option, Some, None, nat_lt, ℤ, pos, negsuc, Result, Ok, Err, slice_get, if◌then◌else◌}
 use Rattle.mon_values.specs.declared.value.Value.{Value, Int, Text}
 use Rattle.mon_values.specs.declared.value.Value.TheOpen.{Value-F}
 use Rattle.mon_values.specs.declared.value.Value.TheViews.{out-Value}

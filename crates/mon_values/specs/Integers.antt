@@ -1,5 +1,5 @@
 -- Integers: those of 64 bits, the quotient rounded down and its remainder.
-use Rattle.std.specs.Prelude.{ℕ, zero, suc, ◌+◌, ◌/◌, ◌^◌, Bool, true, false, nat_lt, ℤ, pos, negsuc, ◌*ℤ◌, ◌-ℤ◌, neg_ℤ}
+use Rattle.std.specs.Prelude.{ℕ, suc, ◌/◌, ◌^◌, Bool, true, false, nat_lt, ℤ, pos, negsuc, ◌*ℤ◌, ◌-ℤ◌, neg_ℤ}
 
 -- z lies from -2 ^ 63 to 2 ^ 63 - 1
 abbrev pub is_in_range : ℤ → Bool

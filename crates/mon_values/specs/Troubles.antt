@@ -1,9 +1,8 @@
 -- The exceptions that the machine raises: a table of classes and texts, and the exception of each row.
 use Rattle.std.specs.Prelude.{ℕ, List, [], ◌∷◌, ◌++◌, take, Option, Some, None, slice_get, codes}
 use Rattle.mon_values.specs.declared.fault.Trouble.{Trouble}
-use Rattle.mon_values.specs.declared.value.Value.TheOpen.{Exc-F}
 use Rattle.mon_values.specs.declared.value.Value.TheViews.{roll-Exc}
-use Rattle.mon_values.specs.declared.value.Value.{Value, Text}
+use Rattle.mon_values.specs.declared.value.Value.{Text}
 use Rattle.mon_values.specs.declared.value.Exc.{Exc}
 use Rattle.mon_values.specs.declared.trouble.Row as declared
 use Rattle.mon_values.specs.declared.trouble.Row.TheVariants as variants

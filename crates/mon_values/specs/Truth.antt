@@ -1,5 +1,5 @@
 -- Which values are true.
-use Rattle.std.specs.Prelude.{ℕ, zero, suc, List, [], ◌∷◌, length, Bool, true, false, not, ◌==◌, ℤ, pos, negsuc}
+use Rattle.std.specs.Prelude.{length, Bool, true, false, not, ◌==◌, ℤ, pos, negsuc}
 use Rattle.mon_values.specs.declared.value.Value.{Value}
 use Rattle.mon_values.specs.declared.value.Value.TheOpen.{Value-F}
 use Rattle.mon_values.specs.declared.value.Value.TheViews.{out-Value}

@@ -1,5 +1,5 @@
 -- How much a value weighs, how deeply it is nested, and what answers a value that is made.
-use Rattle.std.specs.Prelude.{ℕ, ◌+◌, ◌-◌, max, List, [], ◌∷◌, sum, length, Option, Some, None, Bool, true, false, nat_le, Result, Ok, Err, if◌then◌else◌}
+use Rattle.std.specs.Prelude.{ℕ, ◌+◌, ◌-◌, max, List, [], ◌∷◌, sum, length, Option, Some, None, nat_le, Result, Ok, Err, if◌then◌else◌}
 use Rattle.mon_values.specs.declared.value.Value.{Value}
 use Rattle.mon_values.specs.declared.value.Value.TheOpen.{Value-F, Exc-F}
 use Rattle.mon_values.specs.declared.value.Value.TheFolds.{fold-Value, fold-Exc}

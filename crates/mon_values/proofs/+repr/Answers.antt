@@ -1,4 +1,4 @@
-use Rattle.std.proofs.Common.{arith, ◌∙◌, drop}
+use Rattle.std.proofs.Common.{◌∙◌}
 use Rattle.mon_values.specs.Printing.{printed}
 use Rattle.mon_values.proofs.Tables.{items_more, items_last}
 use Rattle.mon_values.proofs.+repr.Goals.{print::write_items-then-i-items+in_ok-append_ascii, print::write_items-else-i-items}

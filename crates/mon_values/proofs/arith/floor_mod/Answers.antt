@@ -1,9 +1,9 @@
-use Rattle.std.proofs.Common.{◌≡◌, ◌≢◌, arith, ap, sym, ◌∙◌, rules, w64}
-use Rattle.std.specs.Prelude.{FitsSigned, pos, ◌<ℤ◌, ◌+ℤ◌, ◌-ℤ◌}
-use Rattle.std.specs.Int.{int_div_euclid, int_rem_euclid}
+use Rattle.std.proofs.Common.{◌≡◌, ◌≢◌, arith, ap, sym, ◌∙◌, w64}
+use Rattle.std.specs.Prelude.{FitsSigned, pos, ◌<ℤ◌, ◌+ℤ◌}
+use Rattle.std.specs.Int.{int_rem_euclid}
 use Rattle.std.proofs.lemmas.Int.{to_z-of_z, ints}
-use Rattle.mon_values.specs.Integers.{floor_div, floor_mod}
-use Rattle.mon_values.proofs.Arithmetics.{floor_above, floor_whole, floor_part, mod_above, mod_whole, mod_part}
+use Rattle.mon_values.specs.Integers.{floor_mod}
+use Rattle.mon_values.proofs.Arithmetics.{mod_whole, mod_part}
 use Rattle.mon_values.proofs.arith.floor_mod.Goals as goal
 
 pub returns-then-remainder-eq0 : goal.returns-then-remainder-eq0

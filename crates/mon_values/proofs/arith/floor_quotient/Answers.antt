@@ -3,7 +3,7 @@ use Rattle.std.specs.Prelude.{FitsSigned, pos, negsuc, ◌<ℤ◌, ◌-ℤ◌}
 use Rattle.std.specs.Int.{int_div_euclid, int_rem_euclid}
 use Rattle.std.proofs.lemmas.Int.{to_z-of_z, ints}
 use Rattle.mon_values.specs.Integers.{floor_div}
-use Rattle.mon_values.proofs.Arithmetics.{floor_above, floor_whole, floor_part, quotient_above}
+use Rattle.mon_values.proofs.Arithmetics.{floor_whole, floor_part, quotient_above}
 use Rattle.mon_values.proofs.arith.floor_quotient.Goals as goal
 
 pub returns-then-rem_euclid-eq0 : goal.returns-then-rem_euclid-eq0

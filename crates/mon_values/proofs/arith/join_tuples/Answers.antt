@@ -1,5 +1,5 @@
-use Rattle.std.proofs.Common.{◌≡◌, ◌++◌, arith, refl, ap, sym, ◌∙◌}
-use Rattle.mon_values.specs.declared.value.Value.{Text, Tuple}
+use Rattle.std.proofs.Common.{◌≡◌, ◌++◌, ap, ◌∙◌}
+use Rattle.mon_values.specs.declared.value.Value.{Tuple}
 use Rattle.mon_values.proofs.Making as making
 use Rattle.mon_values.proofs.arith.join_tuples.Goals as goal
 

@@ -1,5 +1,5 @@
-use Rattle.std.proofs.Common.{arith, refl, ap, sym, ◌∙◌}
-use Rattle.mon_values.specs.declared.value.Value.{Text, Tuple}
+use Rattle.std.proofs.Common.{ap, sym, ◌∙◌}
+use Rattle.mon_values.specs.declared.value.Value.{Text}
 use Rattle.mon_values.proofs.Making as making
 use Rattle.mon_values.proofs.Weighing.{repeat_none}
 use Rattle.mon_values.proofs.arith.repeat_text.Goals as goal

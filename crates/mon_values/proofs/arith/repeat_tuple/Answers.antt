@@ -1,5 +1,5 @@
-use Rattle.std.proofs.Common.{◌≡◌, ◌==◌, ◌<◌, List, [], ◌∷◌, Bool, true, length, arith, refl, ap, sym, ◌∙◌}
-use Rattle.mon_values.specs.declared.value.Value.{Text, Tuple}
+use Rattle.std.proofs.Common.{◌≡◌, ◌==◌, List, [], ◌∷◌, Bool, true, length, arith, refl, ap, sym, ◌∙◌}
+use Rattle.mon_values.specs.declared.value.Value.{Tuple}
 use Rattle.mon_values.proofs.Making as making
 use Rattle.std.specs.List.{repeat}
 use Rattle.std.proofs.lemmas.Bool.Decides.{nat_tests}
