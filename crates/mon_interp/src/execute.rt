@@ -38,11 +38,7 @@ fn raise(alloc: Global, trouble: Trouble, name: &[char]) -> Result<Mode, AllocEr
 }
 
 // Goes on with what the values' tables gave, or raises it.
-fn give(
-    alloc: Global,
-    frame: &mut Frame,
-    given: Result<Value, Trouble>,
-) -> Result<Mode, AllocError>
+fn give(alloc: Global, frame: &mut Frame, given: Result<Value, Trouble>) -> Result<Mode, AllocError>
     requires { frame.old.index < 65536 }
     ensures { IfOk result (λ mode. spec.gives frame.old frame.old.stack given ≡ record { frame = frame.new; mode = mode }) }
 {

@@ -54,7 +54,7 @@ impl Machine {
     }
 
     /// One instruction, at a location with this word.
-    
+
     fn step_at(
         &mut self,
         code: &Code,
@@ -92,11 +92,7 @@ impl Machine {
     }
 
     /// One instruction, whatever stands at its location.
-    fn run_step<H: Handle>(
-        &mut self,
-        program: &Program,
-        handle: &mut H,
-    ) -> Result<(), AllocError>
+    fn run_step<H: Handle>(&mut self, program: &Program, handle: &mut H) -> Result<(), AllocError>
         requires attached { IsTrue (H.told handle.old).attached }
         requires bases { map base_in (H.told handle.old).first.cells ≡ program.now.bases }
         requires counted { self.old.steps < 2 ^ 63 }
@@ -132,11 +128,7 @@ impl Machine {
     }
 
     /// One step, in a mode that goes on.
-    fn one_step<H: Handle>(
-        &mut self,
-        program: &Program,
-        handle: &mut H,
-    ) -> Result<(), AllocError>
+    fn one_step<H: Handle>(&mut self, program: &Program, handle: &mut H) -> Result<(), AllocError>
         requires attached { IsTrue (H.told handle.old).attached }
         requires bases { map base_in (H.told handle.old).first.cells ≡ program.now.bases }
         requires counted { self.old.steps < 2 ^ 63 }

@@ -126,7 +126,12 @@ impl Thread {
     ghost use Rattle.mon_interp.specs.Threads.{beginning, entry_due, AnswersEntry};
 
     /// A thread that calls a code, which has this number in its program, with these arguments.
-    pub fn begin(alloc: Global, code: &Code, number: u16, args: &[i64]) -> Result<Thread, AllocError>
+    pub fn begin(
+        alloc: Global,
+        code: &Code,
+        number: u16,
+        args: &[i64],
+    ) -> Result<Thread, AllocError>
         requires { length args.now ≤ length code.now.locals }
         ensures { IfOk result (λ t. t ≡ beginning code.now number (map Int args.now)) }
     {

@@ -55,8 +55,8 @@ serial_ran p k c args tool b old new steps call wants begins r ends few =
     ] in
     let heard : new.records ≡ line_records p tool 0 s n
     = r.records ∙ ap (λ (l : List Record). l ++ records_of p b [] old.steps old.state r.positions) none
-        ∙ ap (λ m. records_of p b [] m old.state r.positions) first ∙ ap (λ (x : State). records_of p b [] 0 x r.positions) at
-        ∙ (heard_by_wants p k c args call tool b wants).whole_run 0 r.positions in
+    ∙ ap (λ m. records_of p b [] m old.state r.positions) first ∙ ap (λ (x : State). records_of p b [] 0 x r.positions) at
+    ∙ (heard_by_wants p k c args call tool b wants).whole_run 0 r.positions in
     let records : new.records ≡ line_records p tool 0 s steps = heard ∙ ap (λ m. line_records p tool 0 s m) (sym done.0) ∙ line_records_done p tool 0 s steps in
     let outcome : outcome_of new.state.mode ≡ outcome_of (after_steps p s steps).mode = ap (λ (x : State). outcome_of x.mode) (there ∙ sym done.1) in
     λ i. record { records = records i; steps = (count ∙ sym done.0) i; outcome = outcome i }

@@ -20,31 +20,25 @@ pub fn host_serial<S: Store, K: Sink>(
     out: &mut K,
 ) -> Status
     // a status that has a text comes with the whole of it
-    ensures done {
-        (file plan : List ℕ) → Tells (replay_of (texts words.now)) (S.holds store.old) file plan → result ≡ Status.Done →
+    ensures done { (file plan : List ℕ) → Tells (replay_of (texts words.now)) (S.holds store.old) file plan → result ≡ Status.Done →
         Gives (answer (texts words.now) file plan) Status.Done (K.written out.old) (K.written out.new) }
-    ensures not_built {
-        (file plan : List ℕ) → Tells (replay_of (texts words.now)) (S.holds store.old) file plan → result ≡ Status.NotBuilt →
+    ensures not_built { (file plan : List ℕ) → Tells (replay_of (texts words.now)) (S.holds store.old) file plan → result ≡ Status.NotBuilt →
         Gives (answer (texts words.now) file plan) Status.NotBuilt (K.written out.old) (K.written out.new) }
-    ensures usage {
-        result ≡ Status.Usage →
+    ensures usage { result ≡ Status.Usage →
         (replay_of (texts words.now) ≡ None) × Writes (K.written out.old) usage_line (K.written out.new) }
 
     // each fault has its cause
-    ensures read {
-        result ≡ Status.ReadFault →
+    ensures read { result ≡ Status.ReadFault →
         Rose (S.faults store.old) (S.faults store.new)
         × FailedRead (replay_of (texts words.now)) (S.holds store.old) (S.last_failed store.new)
         × (K.written out.new ≡ K.written out.old) }
     ensures write { result ≡ Status.WriteFault → Rose (K.faults out.old) (K.faults out.new) }
-    ensures prefix {
-        (file plan : List ℕ) → Tells (replay_of (texts words.now)) (S.holds store.old) file plan → result ≡ Status.WriteFault →
+    ensures prefix { (file plan : List ℕ) → Tells (replay_of (texts words.now)) (S.holds store.old) file plan → result ≡ Status.WriteFault →
         WritesPrefix (K.written out.old) (answer (texts words.now) file plan).text (K.written out.new) }
     ensures memory { result ≡ Status.Memory → K.written out.new ≡ K.written out.old }
 
     // where no fault came, the status is the due one, or there was no memory
-    ensures complete {
-        (file plan : List ℕ) → Tells (replay_of (texts words.now)) (S.holds store.old) file plan →
+    ensures complete { (file plan : List ℕ) → Tells (replay_of (texts words.now)) (S.holds store.old) file plan →
         ¬ Rose (S.faults store.old) (S.faults store.new) → ¬ Rose (K.faults out.old) (K.faults out.new) →
         (result ≡ (answer (texts words.now) file plan).status) ⊎ (result ≡ Status.Memory) }
 {

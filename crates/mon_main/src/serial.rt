@@ -29,12 +29,7 @@ fn first_word(bases: &[u8], tool: u8, number: usize, location: &Location) -> u64
 }
 
 // Adds the first words of a code's locations.
-fn push_words(
-    words: &mut Vec<u64>,
-    bases: &[u8],
-    tool: u8,
-    code: &Code,
-) -> Result<(), AllocError>
+fn push_words(words: &mut Vec<u64>, bases: &[u8], tool: u8, code: &Code) -> Result<(), AllocError>
     requires { tool < 6 }
     ensures { OnOk result (words.new.items ≡ words.old.items ++ of_locations (line_word bases.now tool) (length words.old.items) code.now.locations) }
 {

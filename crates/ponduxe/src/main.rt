@@ -4,10 +4,10 @@
 
 use mon_main::{FileStore, Status, StdoutSink, host_serial};
 use std::alloc::AllocError;
+use std::env;
 use std::io::ErrorKind;
 use std::process::ExitCode;
 use std::rt::Env;
-use std::env;
 
 fn main(rt: HostRuntime) -> ExitCode {
     let status = match words(&rt) {

@@ -14,4 +14,4 @@ returns-in-Unwind-clause-step g c =
     let m : Machine = c.args.self.now in
     let b : Board = after (g.H.Handle.told c.args.handle.now).first (g.H.Handle.told c.args.handle.now).seen in
     subst (λ (last : Mode). Stepped (step c.args.program.now (state_of m)) (is_heard b) (progress_of m) (record { state = record { frame = m.frame; mode = last }; records = m.records; steps = m.steps + 1 })) (sym c.put.ensures)
-        (stepped_unwound c.args.program.now b m.frame m.mode c.in-Unwind.exc m.records m.steps (sym c.in-Unwind.ensures.value))
+    (stepped_unwound c.args.program.now b m.frame m.mode c.in-Unwind.exc m.records m.steps (sym c.in-Unwind.ensures.value))

@@ -28,7 +28,7 @@ returns-in-None-op_of_number-clause-step g c =
     let inside = c.in-Some.ensures.inside c.in-Some.code.now (sym c.in-Some.ensures.value) in
     let within : c.in-Some.code.now.first + c.args.self.now.frame.index < length first.cells = omega (arith, inside, c.in-Some-get.ensures.within, ap length c.requires.bases, Rattle.std.proofs.lemmas.List.length-map first.cells Rattle.mon_words.specs.History.base_in) in
     stepped_stuck (no_op c.args.program.now first (state_of c.args.self.now) c.in-Some.code.now c.in-Some-get.location.now c.load-word.result c.requires.runs c.in-Some.ensures.value c.requires.bases within c.load-word.ensures.told.base
-        (c.in-None-op_of_number.ensures ∙ ap (λ (p : WordParts). op_of p.base) c.unpack.ensures)) (c.get_stuck-in-None-op_of_number.ensures.step (is_heard b))
+    (c.in-None-op_of_number.ensures ∙ ap (λ (p : WordParts). op_of p.base) c.unpack.ensures)) (c.get_stuck-in-None-op_of_number.ensures.step (is_heard b))
 
 pub returns-in-Some-op_of_number-clause-step : goal.returns-in-Some-op_of_number-clause-step
 returns-in-Some-op_of_number-clause-step g c =
@@ -37,4 +37,4 @@ returns-in-Some-op_of_number-clause-step g c =
     let inside = c.in-Some.ensures.inside c.in-Some.code.now (sym c.in-Some.ensures.value) in
     let within : c.in-Some.code.now.first + c.args.self.now.frame.index < length first.cells = omega (arith, inside, c.in-Some-get.ensures.within, ap length c.requires.bases, Rattle.std.proofs.lemmas.List.length-map first.cells Rattle.mon_words.specs.History.base_in) in
     on_ok-then c.step_at.result (λ t. stepped_lawful c.args.program.now first b (progress_of c.args.self.now) (progress_of c.step_at.new.self) c.in-Some.code.now c.in-Some-get.location.now c.load-word.result c.in-Some-op_of_number.op
-        c.requires.runs c.in-Some.ensures.value c.in-Some-get.ensures.value c.requires.bases within c.load-word.ensures.told.base c.load-word.ensures.told.shows.0 (c.in-Some-op_of_number.ensures ∙ ap (λ (p : WordParts). op_of p.base) c.unpack.ensures) (t c.args.program.now)) c.step_at.ensures.step
+    c.requires.runs c.in-Some.ensures.value c.in-Some-get.ensures.value c.requires.bases within c.load-word.ensures.told.base c.load-word.ensures.told.shows.0 (c.in-Some-op_of_number.ensures ∙ ap (λ (p : WordParts). op_of p.base) c.unpack.ensures) (t c.args.program.now)) c.step_at.ensures.step
