@@ -5,8 +5,6 @@ mod command;
 mod host;
 mod memory;
 mod plan;
-#[cfg(test)]
-mod plan_tests;
 mod read;
 mod reply;
 mod report;

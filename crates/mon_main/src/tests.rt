@@ -129,34 +129,40 @@ fn a_plan_that_is_not_read_writes_nothing(rt: HostRuntime) -> Result<(), Fail> {
     Ok(())
 }
 
+/// Whether 10,000 bytes break off so, where the write with the number `failing` fails.
+fn breaks_off(alloc: Global, failing: u64, kept: usize, writes: u64) -> Result<bool, AllocError> {
+    let text = vec![in alloc; b'x'; 10_000]?;
+    let mut out = sink(alloc, &[failing])?;
+    let failed = write_all(&mut out, text.as_slice()) == Err(SinkFault::Failed);
+    Ok(failed && out.bytes.len() == kept && out.writes == writes && out.faults == 1)
+}
+
+#[test]
+fn a_failed_piece_ends_the_text(rt: HostRuntime) -> Result<(), Fail> {
+    let alloc = rt.alloc();
+    assert!(rt; breaks_off(alloc, 0, 2048, 1)?);
+    assert!(rt; breaks_off(alloc, 1, 6144, 2)?);
+    assert!(rt; breaks_off(alloc, 2, 9096, 3)?);
+    Ok(())
+}
+
+/// Whether so many bytes are written in so many pieces.
+fn goes_in_pieces(alloc: Global, length: usize, writes: u64) -> Result<bool, AllocError> {
+    let text = vec![in alloc; b'x'; length]?;
+    let mut out = sink(alloc, &[])?;
+    let done = write_all(&mut out, text.as_slice()) == Ok(());
+    Ok(done && out.bytes.len() == length && out.writes == writes)
+}
+
 #[test]
 fn a_text_is_written_in_pieces(rt: HostRuntime) -> Result<(), Fail> {
     let alloc = rt.alloc();
-    let text = vec![in alloc; b'x'; 10_000]?;
-    for (failing, kept) in [(0u64, 2048usize), (1, 6144), (2, 9096)] {
-        let mut out = sink(alloc, &[failing])?;
-        assert_eq!(rt;
-            write_all(&mut out, text.as_slice()),
-            Err(SinkFault::Failed)
-        );
-        assert_eq!(rt; out.bytes.len(), kept);
-        assert_eq!(rt; out.writes, failing + 1);
-        assert_eq!(rt; out.faults, 1);
-    }
-    for (length, writes) in [
-        (0usize, 0u64),
-        (1, 1),
-        (4096, 1),
-        (4097, 2),
-        (8192, 2),
-        (10_000, 3),
-    ] {
-        let mut out = sink(alloc, &[])?;
-        assert!(rt; length <= text.len());
-        assert_eq!(rt; write_all(&mut out, &text[..length]), Ok(()));
-        assert_eq!(rt; out.bytes.len(), length);
-        assert_eq!(rt; out.writes, writes);
-    }
+    assert!(rt; goes_in_pieces(alloc, 0, 0)?);
+    assert!(rt; goes_in_pieces(alloc, 1, 1)?);
+    assert!(rt; goes_in_pieces(alloc, 4096, 1)?);
+    assert!(rt; goes_in_pieces(alloc, 4097, 2)?);
+    assert!(rt; goes_in_pieces(alloc, 8192, 2)?);
+    assert!(rt; goes_in_pieces(alloc, 10_000, 3)?);
     Ok(())
 }
 
