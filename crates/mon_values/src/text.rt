@@ -90,16 +90,22 @@ impl Text {
         self.items.extend_from_slice(more)
     }
 
-    /// Adds an ASCII string at the end, as `from_ascii` reads it; after an error a part of it may stand there.
+    /// Adds an ASCII string at the end, as `from_ascii` reads it.
     pub fn append_ascii(&mut self, ascii: &str) -> Result<(), AllocError>
-        ensures { OnOk result (self.new ≡ self.old ++ ascii.now) }
+        ensures ok { OnOk result (self.new ≡ self.old ++ ascii.now) }
+        ensures err { OnErr result (self.new ≡ self.old) }
     {
+        let before = self.items.len();
         for byte in ascii.as_bytes() {
-            self.push(*byte as char)?;
+            if self.push(*byte as char).is_err() {
+                self.items.truncate(before);
+                return Err(AllocError);
+            }
         }
         Ok(())
     }
 
+    /// A copy of this text.
     pub fn copy(&self, alloc: Global) -> Result<Text, AllocError>
         ensures { IfOk result (λ t. t ≡ self.now) }
     {

@@ -42,6 +42,7 @@ pub struct Exc {
 impl Value {
     ghost use Rattle.std.specs.Prelude.{◌≡◌, IfOk};
 
+    /// A copy of this value.
     #[cycle(copy)]
     pub fn copy(&self, alloc: Global) -> Result<Value, AllocError>
         ensures { IfOk result (λ v. v ≡ self.now) }
@@ -68,6 +69,7 @@ impl Value {
 impl Exc {
     ghost use Rattle.std.specs.Prelude.{◌≡◌, IfOk};
 
+    /// A copy of this exception.
     #[cycle(copy)]
     pub fn copy(&self, alloc: Global) -> Result<Exc, AllocError>
         ensures { IfOk result (λ e. e ≡ self.now) }

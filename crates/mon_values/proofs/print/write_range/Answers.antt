@@ -12,4 +12,4 @@ returns c =
     let stop : FitsSigned w64 c.args.stop = c.ranges.stop in
     let step : FitsSigned w64 c.args.step = c.ranges.step in
     six_parts c.append_ascii-3.result _ _ _ _ _ _ _ (codes "range(") (signed_decimal c.args.start) (codes ", ") (signed_decimal c.args.stop) (step_repr c.args.step) (codes ")")
-    c.in_ok-append_ascii.ensures (simp to_z-of_z at c.in_ok-write_signed.ensures) c.in_ok-append_ascii-2.ensures (simp to_z-of_z at c.in_ok-write_signed-2.ensures) (simp to_z-of_z at c.in_ok-write_step.ensures) c.append_ascii-3.ensures
+    c.in_ok-append_ascii.ensures.ok (simp to_z-of_z at c.in_ok-write_signed.ensures) c.in_ok-append_ascii-2.ensures.ok (simp to_z-of_z at c.in_ok-write_signed-2.ensures) (simp to_z-of_z at c.in_ok-write_step.ensures) c.append_ascii-3.ensures.ok

@@ -1,0 +1,102 @@
+use super::sample::{Sample, build, is_text, prints_as};
+use crate::class::is_subclass;
+use crate::text::Text;
+use crate::truth::is_true;
+use crate::value::{Value, copy_items};
+use std::alloc::{AllocError, Global};
+use std::test::Fail;
+
+/// A value, and whether it counts as true.
+struct TruthRow(Sample, bool);
+
+fn truth_holds(alloc: Global, row: &TruthRow) -> Result<bool, AllocError> {
+    let v = build(alloc, &row.0)?;
+    Ok(is_true(&v) == row.1)
+}
+
+static TRUTH_ROWS: &[TruthRow] = &[
+    TruthRow(Sample::None, false),
+    TruthRow(Sample::Bool(false), false),
+    TruthRow(Sample::Int(0), false),
+    TruthRow(Sample::Int(-1), true),
+    TruthRow(Sample::Text(""), false),
+    TruthRow(Sample::Text("abc"), true),
+    TruthRow(Sample::Nones(0), false),
+    TruthRow(Sample::Nones(1), true),
+    TruthRow(Sample::Range(0, 0, 1), false),
+    TruthRow(Sample::Range(0, 9, 0), false),
+    TruthRow(Sample::Range(0, 9, -1), false),
+    TruthRow(Sample::Range(9, 0, -1), true),
+    TruthRow(Sample::Bare(14), true),
+    TruthRow(Sample::Function(0), true),
+];
+
+#[test]
+fn truths(rt: HostRuntime) -> Result<(), Fail> {
+    let alloc = rt.alloc();
+    for (i, row) in TRUTH_ROWS.iter().enumerate() {
+        assert!(rt; truth_holds(alloc, row)?, "row {i}");
+    }
+    Ok(())
+}
+
+#[test]
+fn classes_below_classes(rt: HostRuntime) {
+    assert!(rt; is_subclass(10, 9) && is_subclass(10, 0) && !is_subclass(9, 10));
+    assert!(rt; is_subclass(77, 77) && !is_subclass(77, 0));
+    assert!(rt; is_subclass(5, 4) && is_subclass(8, 7) && !is_subclass(2, 1));
+}
+
+fn copy_holds(alloc: Global, sample: &Sample) -> Result<bool, AllocError> {
+    let v = build(alloc, sample)?;
+    let copy = v.copy(alloc)?;
+    Ok(v.equals(&copy))
+}
+
+static COPIED_SAMPLES: &[Sample] = &[
+    Sample::None,
+    Sample::Text("abc"),
+    Sample::RaisedPair(16),
+    Sample::Bare(3),
+    Sample::Nested(64),
+    Sample::Range(0, 5, 2),
+    Sample::Done,
+];
+
+#[test]
+fn copies_are_equal(rt: HostRuntime) -> Result<(), Fail> {
+    let alloc = rt.alloc();
+    for (i, sample) in COPIED_SAMPLES.iter().enumerate() {
+        assert!(rt; copy_holds(alloc, sample)?, "row {i}");
+    }
+    Ok(())
+}
+
+fn copied_items(alloc: Global) -> Result<Value, AllocError> {
+    Ok(Value::Tuple(copy_items(alloc, &[Value::Int(1), Value::None])?))
+}
+
+#[test]
+fn items_are_copied(rt: HostRuntime) -> Result<(), Fail> {
+    let alloc = rt.alloc();
+    let copies = copied_items(alloc)?;
+    assert!(rt; prints_as(alloc, &copies, "(1, None)")?);
+    Ok(())
+}
+
+fn grown_text(alloc: Global) -> Result<Text, AllocError> {
+    let mut text = Text::from_vec(Vec::new(alloc));
+    text.push('a')?;
+    text.append(&['b', 'c'])?;
+    text.append_ascii("de")?;
+    text.copy(alloc)
+}
+
+#[test]
+fn a_text_grows(rt: HostRuntime) -> Result<(), Fail> {
+    let alloc = rt.alloc();
+    let text = grown_text(alloc)?;
+    assert!(rt; is_text(alloc, &text, "abcde")?);
+    assert!(rt; text.len() == 5 && !text.is_empty());
+    Ok(())
+}
