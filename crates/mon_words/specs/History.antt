@@ -1,5 +1,5 @@
 -- The history of the shared words: disables by threads, and boards put by releases of the stopped world.
-use Rattle.std.specs.Prelude.{◌≡◌, ℕ, List, [], ◌∷◌, ◌++◌, slice_index_or, slice_set, cond, ◌==◌}
+use Rattle.std.specs.Prelude.{◌≡◌, ℕ, zero, suc, ◌≤◌, List, [], ◌∷◌, ◌++◌, map, length, slice_index, slice_index_or, slice_set, cond, ◌==◌}
 use Rattle.mon_words.specs.Words.{clear}
 use Rattle.mon_words.specs.declared.history.Cell.{Cell}
 use Rattle.mon_words.specs.declared.history.Board.{Board}
@@ -40,3 +40,30 @@ puts (Put stops c ∷ ms) = Put stops c ∷ puts ms
 pub record Begins (earlier later : List Mark) : Type 0 where
   pub more : List Mark
   pub is : later ≡ earlier ++ more
+
+-- each board from the n-th mark on has the count as the stop of thread t
+abbrev pub Still : ℕ → ℕ → ℕ → List Mark → Type 0
+Still n t count [] = Unit {0}
+Still (suc n) t count (m ∷ ms) = Still n t count ms
+Still zero t count (Off u l k ∷ ms) = Still zero t count ms
+Still zero t count (Put stops b ∷ ms) = (slice_index stops t ≡ count) × Still zero t count ms
+
+-- each board has at most the count as the stop of thread t
+abbrev pub UpTo : ℕ → ℕ → List Mark → Type 0
+UpTo t count [] = Unit {0}
+UpTo t count (Off u l k ∷ ms) = UpTo t count ms
+UpTo t count (Put stops b ∷ ms) = (slice_index stops t ≤ count) × UpTo t count ms
+
+abbrev pub base_of : Cell → ℕ
+base_of c = c.base
+
+-- the board has these base opcodes, and a callback word for each tool
+pub record HasBases (bases : List ℕ) (b : Board) : Type 0 where
+  pub bases_are : map base_of b.cells ≡ bases
+  pub six : length b.callbacks ≡ 6
+
+-- so has each board of the history
+abbrev pub Based : List ℕ → List Mark → Type 0
+Based bases [] = Unit {0}
+Based bases (Off u l k ∷ ms) = Based bases ms
+Based bases (Put stops b ∷ ms) = HasBases bases b × Based bases ms
