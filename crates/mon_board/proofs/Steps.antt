@@ -10,7 +10,7 @@ use prog.Atomic.{either}
 use Rattle.atomic_table.specs.Table.{State, step, keeps, Allows, opening}
 use Rattle.atomic_table.proofs.Lists.{exchanged, at_set}
 use Rattle.mon_words.specs.Words.{cell_of, mask_of, normal, Allowed, Shows}
-use Rattle.mon_words.specs.History.{cell_at, clear_at, after, UpTo, HasBases, Based, base_of}
+use Rattle.mon_words.specs.History.{cell_at, clear_at, after, UpTo, HasBases, Based, base_in}
 use Rattle.mon_words.specs.Standing.{size, board_of, IsFirst, Stands, Fine, Right, overlay, noted_of, count_of, table}
 use Rattle.mon_words.specs.declared.history.Board.{Board}
 use Rattle.mon_words.specs.declared.history.Mark.{Mark}
@@ -209,7 +209,7 @@ stores about n id i j new m place low fine s r long at fits =
     let kept : Fine first j new = λ l e. let f = fine l e in
     let right : Right first started v.written (7 + l) (get_or s.words (about.threads + (7 + l)) 0) = o.right (7 + l) (omega arith) in
     let there : Stands (overlay started v.written) (7 + l) (get_or s.words (about.threads + (7 + l)) 0) = lay.stands (7 + l) (omega arith) in
-    let old-base : (cell_at (overlay started v.written) l).base ≡ (cell_at first l).base = ap base_of (sym (there.location l refl).0) ∙ right_base first started v.written l (get_or s.words (about.threads + (7 + l)) 0) (same_base (plain.first_bases about) started first l lay.started r.first) right in
+    let old-base : (cell_at (overlay started v.written) l).base ≡ (cell_at first l).base = ap base_in (sym (there.location l refl).0) ∙ right_base first started v.written l (get_or s.words (about.threads + (7 + l)) 0) (same_base (plain.first_bases about) started first l lay.started r.first) right in
     (f.0 ∙ (ap (λ (b : Board). (cell_at b l).base) lay.is ∙ old-base), f.1) in
     let w : PlainView = record v { written = record { place = o₀; word = new } ∷ v.written } in (
       w,
@@ -241,8 +241,8 @@ releases about n id i m all-noted s r long at fits =
     let w : PlainView = record v { seen = log'; noted = []; written = [] } in
     let stop : (t : ℕ) → t < about.threads → get_or stops t 0 ≡ get_or v.counts t 0 = λ t h. table_at v.threads (count_of v.noted) t (omega arith)
     ∙ (let q = noted_there v.noted t (count_of v.noted t) (some_count v.noted t (all-noted t (omega arith))) in sym q.4 ∙ (sym (o.noted q.0 q.1 q.2).1 ∙ ap (λ (z : ℕ). get_or v.counts z 0) q.3)) in
-    let laid-bases : map base_of (overlay started v.written).cells ≡ plain.first_bases about = bases_from (overlay started v.written).cells first.cells (laid-size.0 ∙ lay.long)
-    (λ l h. ap base_of (sym ((lay.stands (7 + l) (omega arith)).location l refl).0) ∙ right_base first started v.written l (get_or s.words (about.threads + (7 + l)) 0) (same_base (plain.first_bases about) started first l bases r.first) (o.right (7 + l) (omega arith))) in
+    let laid-bases : map base_in (overlay started v.written).cells ≡ plain.first_bases about = bases_from (overlay started v.written).cells first.cells (laid-size.0 ∙ lay.long)
+    (λ l h. ap base_in (sym ((lay.stands (7 + l) (omega arith)).location l refl).0) ∙ right_base first started v.written l (get_or s.words (about.threads + (7 + l)) 0) (same_base (plain.first_bases about) started first l bases r.first) (o.right (7 + l) (omega arith))) in
     let board-bases : HasBases (plain.first_bases about) board = subst (HasBases (plain.first_bases about)) (sym lay.is) record { bases_are = laid-bases; six = laid-size.1 ∙ bases.six } in (
       w,
       keeps,

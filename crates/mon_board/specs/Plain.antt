@@ -5,7 +5,7 @@ use mathlib.Core.Option.{some}
 use lib.ListN.{get_elem?}
 use Rattle.atomic_table.specs.Table.{State, Me, Step}
 use Rattle.mon_words.specs.Words.{Shows, mask_of}
-use Rattle.mon_words.specs.History.{cell_at, after, UpTo, HasBases, Based, base_of}
+use Rattle.mon_words.specs.History.{cell_at, after, UpTo, HasBases, Based, base_in}
 use Rattle.mon_words.specs.Standing.{size, board_of, Stands, overlay, Right, count_of, table}
 use Rattle.mon_words.specs.declared.history.Board.{Board}
 use Rattle.mon_words.specs.declared.history.Mark.{Mark}
@@ -19,7 +19,7 @@ first_board about = board_of (drop about.threads about.words.value.items)
 
 -- the base opcodes of the locations
 abbrev pub first_bases : PlainPlan → List ℕ
-first_bases about = map base_of (first_board about).cells
+first_bases about = map base_in (first_board about).cells
 
 -- Each count word is its thread's stored count, and no board of the history has more. Each count that was noted is the stored
 -- one. Each word of the board is what was stored last since the board was halted, or is lawful at the history.

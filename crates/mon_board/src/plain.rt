@@ -1,6 +1,6 @@
 //! The board of one thread, which takes the parts of several in turn.
 ghost use Rattle.std.specs.Prelude.{◌≡◌, ◌+◌, ◌++◌, ◌<◌, [], IfOk, length, map, replicate};
-ghost use Rattle.mon_words.specs.History.{base_of};
+ghost use Rattle.mon_words.specs.History.{base_in};
 ghost use Rattle.mon_board.specs.Plain.{standing};
 ghost use Rattle.mon_board.specs.declared.plain.BoardFault.TheVariants as board_fault;
 
@@ -45,7 +45,7 @@ pub struct PlainBoard {
     ghost locations_are: { length chair.me.0.first.cells ≡ locations },
     ghost words_are: { table.shared.table_id.words ≡ threads + 7 + locations },
     ghost counts_are: { length chair.me.0.counts ≡ threads },
-    ghost based: { map base_of (standing chair.me.0).cells ≡ map base_of chair.me.0.first.cells },
+    ghost based: { map base_in (standing chair.me.0).cells ≡ map base_in chair.me.0.first.cells },
     ghost six: { length (standing chair.me.0).callbacks ≡ 6 },
 }
 

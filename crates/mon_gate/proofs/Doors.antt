@@ -7,7 +7,7 @@ use mathlib.Core.Option.{none, some-ne-none}
 use native.Mathlib.Decide.{ℕ_discrete, dec_le}
 use Rattle.atomic_table.specs.Table.{step, keeps, Allows}
 use Rattle.mon_words.specs.Words.{stop_bit}
-use Rattle.mon_words.specs.History.{after, HasBases, base_of}
+use Rattle.mon_words.specs.History.{after, HasBases, base_in}
 use Rattle.mon_words.specs.Standing.{Right}
 use Rattle.mon_words.specs.declared.history.Board.{Board}
 use Rattle.mon_words.specs.declared.history.Mark.{Mark}
@@ -123,8 +123,8 @@ observes about n id m is s r long at fits =
     let ok = r.seats id v at in let o = ok.leads (omega arith) in let c = o.clean p₃ in
     let w : View = record m.0 { phase = Stopped; seen = log; noted = []; written = []; tally = record m.0.tally { found = x } } in let u : View = record v { tally = record v.tally { found = x } } in
     let told = ok.told (omega (arith, ap alive is)) in
-    let based : HasBases (map base_of v.first.cells) (after v.first log) =
-    subst (λ (f : Board). HasBases (map base_of f.cells) (after f log)) (sym told.first_is) (after-bases (first_bases about) (first_board about) log r.based r.first) in
+    let based : HasBases (map base_in v.first.cells) (after v.first log) =
+    subst (λ (f : Board). HasBases (map base_in f.cells) (after f log)) (sym told.first_is) (after-bases (first_bases about) (first_board about) log r.based r.first) in
     dite (ℕ_discrete (x % 4294967296) 0)
     (λ none-in. let empty : total in_of s.views ≡ 0 = omega arith in (
       w,

@@ -7,7 +7,7 @@ use lib.Seq.{set-get_or}
 use Rattle.atomic_table.specs.Table.{step, keeps, Allows}
 use Rattle.atomic_table.proofs.Lists.{set_here}
 use Rattle.mon_words.specs.Words.{cell_of, Allowed, stop_bit}
-use Rattle.mon_words.specs.History.{cell_at, after, UpTo, HasBases, Based, base_of}
+use Rattle.mon_words.specs.History.{cell_at, after, UpTo, HasBases, Based, base_in}
 use Rattle.mon_words.specs.Standing.{size, Stands, Fine, Right, overlay, noted_of, count_of, table}
 use Rattle.mon_words.specs.declared.history.Board.{Board}
 use Rattle.mon_words.specs.declared.history.Mark.{Mark}
@@ -54,8 +54,8 @@ releases about n id m is all-noted s r long at fits =
     let board-is : board ≡ overlay started v.written = ap (λ (f : Board). overlay (after f log) v.written) told.first_is in
     let laid-right : (j : ℕ) → j < size first → Stands (overlay started v.written) j (word_at about.threads s.words j) = λ j h. right_stands first started v.written j (word_at about.threads s.words j) (omega arith) bases.six (lead.right j h) in
     let right : (j : ℕ) → j < size first → Stands board j (word_at about.threads s.words j) = λ j h. subst (λ (b : Board). Stands b j (word_at about.threads s.words j)) (sym board-is) (laid-right j h) in
-    let laid-bases : map base_of (overlay started v.written).cells ≡ first_bases about = bases_from (overlay started v.written).cells first.cells (laid.0 ∙ long-board)
-    (λ l h. ap base_of (sym ((laid-right (7 + l) (omega arith)).location l refl).0) ∙ right_base first started v.written l (word_at about.threads s.words (7 + l)) (same_base (first_bases about) started first l bases r.first) (lead.right (7 + l) (omega arith))) in
+    let laid-bases : map base_in (overlay started v.written).cells ≡ first_bases about = bases_from (overlay started v.written).cells first.cells (laid.0 ∙ long-board)
+    (λ l h. ap base_in (sym ((laid-right (7 + l) (omega arith)).location l refl).0) ∙ right_base first started v.written l (word_at about.threads s.words (7 + l)) (same_base (first_bases about) started first l bases r.first) (lead.right (7 + l) (omega arith))) in
     let board-bases : HasBases (first_bases about) board = subst (HasBases (first_bases about)) (sym board-is) record { bases_are = laid-bases; six = laid.1 ∙ bases.six } in
     let same-numbers : SameNumbers v w = record { phase = ap numbered (sym is); number = refl; ended = refl; tickets = refl } in
     let a = total-set in_of s.views id v w at in let b = total-set asks_of s.views id v w at in let c = total-set leads_of s.views id v w at in
@@ -118,7 +118,7 @@ rewrites about n id j i new m is place low fine s r long at fits =
     let kept : Fine first j new = λ l e. let f = fine l e in
     let right : Right first started v.written (7 + l) (word_at about.threads s.words (7 + l)) = o.right (7 + l) (omega arith) in
     let there : Stands (overlay started v.written) (7 + l) (word_at about.threads s.words (7 + l)) = right_stands first started v.written (7 + l) (word_at about.threads s.words (7 + l)) (omega arith) bases.six right in
-    let old-base : (cell_at (overlay started v.written) l).base ≡ (cell_at first l).base = ap base_of (sym (there.location l refl).0) ∙ right_base first started v.written l (word_at about.threads s.words (7 + l)) (same_base (first_bases about) started first l bases r.first) right in
+    let old-base : (cell_at (overlay started v.written) l).base ≡ (cell_at first l).base = ap base_in (sym (there.location l refl).0) ∙ right_base first started v.written l (word_at about.threads s.words (7 + l)) (same_base (first_bases about) started first l bases r.first) right in
     (f.0 ∙ (ap (λ (b : Board). (cell_at b l).base) board-is ∙ old-base), f.1) in
     let w : View = record v { written = record { place = o₀; word = new } ∷ v.written } in
     let count-stays : (z : ℕ) → z < about.threads → count_at ws z ≡ count_at s.words z = λ z h. get_or-set_other s.words i (count_place z) new 0 (λ e. absurd (omega arith)) in

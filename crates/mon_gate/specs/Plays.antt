@@ -5,7 +5,7 @@ use mathlib.Core.Option.{some}
 use lib.ListN.{get_elem?}
 use Rattle.atomic_table.specs.Table.{Me, Step}
 use Rattle.mon_words.specs.Words.{Shows, mask_of, stop_bit}
-use Rattle.mon_words.specs.History.{cell_at, after, offs, puts, Begins, Still, UpTo, HasBases, base_of}
+use Rattle.mon_words.specs.History.{cell_at, after, offs, puts, Begins, Still, UpTo, HasBases, base_in}
 use Rattle.mon_words.specs.Standing.{Stands, overlay, noted_of, count_of, table}
 use Rattle.mon_words.specs.declared.history.Board.{Board}
 use Rattle.mon_words.specs.declared.history.Mark.{Mark}
@@ -74,7 +74,7 @@ asked st m n m' = m' ≡ turned m Asked m.0.seen
 
 abbrev pub observed : Tells
 observed st m n m' = (n % 4294967296 ≡ 0 → (log : List Mark) × Begins m.0.seen log × (puts log ≡ m.0.mine)
-    × HasBases (map base_of m.0.first.cells) (after m.0.first log)
+    × HasBases (map base_in m.0.first.cells) (after m.0.first log)
     × (m' ≡ (record m.0 { phase = Stopped; seen = log; noted = []; written = []; tally = record m.0.tally { found = n } }, m.1)))
     × (n % 4294967296 ≢ 0 → m' ≡ (record m.0 { tally = record m.0.tally { found = n } }, m.1))
 

@@ -5,7 +5,7 @@ use mathlib.Core.Option.{some}
 use lib.ListN.{get_elem?}
 use Rattle.atomic_table.specs.Table.{State}
 use Rattle.mon_words.specs.Words.{stop_bit}
-use Rattle.mon_words.specs.History.{after, offs, puts, Begins, Still, UpTo, HasBases, Based, base_of}
+use Rattle.mon_words.specs.History.{after, offs, puts, Begins, Still, UpTo, HasBases, Based, base_in}
 use Rattle.mon_words.specs.Standing.{size, board_of, Right}
 use Rattle.mon_words.specs.declared.history.Board.{Board}
 use Rattle.mon_words.specs.declared.history.Mark.{Mark}
@@ -96,7 +96,7 @@ first_board about = board_of (drop (2 + about.threads) about.words.value.items)
 
 -- the base opcodes of the locations
 abbrev pub first_bases : Plan → List ℕ
-first_bases about = map base_of (first_board about).cells
+first_bases about = map base_in (first_board about).cells
 
 -- The gate word counts those inside, and has its top bit while the first pass asks or stops. While it stops nobody works.
 pub record Gated (s : St) : Type 0 where

@@ -1,4 +1,4 @@
-ghost use Rattle.mon_words.specs.History.{base_of};
+ghost use Rattle.mon_words.specs.History.{base_in};
 ghost use Rattle.mon_gate.specs.Plays.{standing};
 ghost use Rattle.mon_gate.specs.Rule.{inside, numbered, works};
 ghost use Rattle.mon_gate.specs.declared.gate.GateFault.TheVariants as gate_fault;
@@ -93,7 +93,7 @@ pub struct Stopped {
     pub(crate) chair: Chair,
     ghost bare: { chair.me.1 ≡ [] },
     ghost phase: { chair.me.0.phase ≡ StoppedNow },
-    ghost based: { map base_of (standing chair.me.0).cells ≡ map base_of chair.me.0.first.cells },
+    ghost based: { map base_in (standing chair.me.0).cells ≡ map base_in chair.me.0.first.cells },
     ghost six: { length (standing chair.me.0).callbacks ≡ 6 },
 }
 

@@ -1,6 +1,6 @@
 -- What a handle tells, and what each of its calls says of it.
 use Rattle.std.specs.Prelude.{◌≡◌, ℕ, ◌+◌, ◌<◌, ◌≤◌, ◌==◌, Bool, List, [], ◌∷◌, ◌++◌, Result, is_ok, IfErr, if◌then◌else◌, slice_index, length}
-use Rattle.mon_words.specs.Words.{Shows, mask_of, stop_bit}
+use Rattle.mon_words.specs.Words.{cell_of, Shows, mask_of, stop_bit}
 use Rattle.mon_words.specs.History.{after, cell_at, offs, puts, Begins, Still}
 use Rattle.mon_words.specs.declared.handle.WorldStopped.{WorldStopped}
 use Rattle.mon_words.specs.declared.history.Board.{Board}
