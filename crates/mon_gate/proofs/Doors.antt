@@ -1,5 +1,5 @@
 -- Entering, leaving, polling, asking and observing: the steps on the gate word that make no mark.
-use Rattle.std.proofs.Common.{◌≡◌, ℕ, ◌+◌, ◌-◌, ◌*◌, ◌/◌, ◌%◌, ◌^◌, List, [], map, sym, refl, ap, subst, arith, bit_or}
+use Rattle.std.proofs.Common.{◌≡◌, ℕ, ◌+◌, ◌-◌, ◌*◌, ◌/◌, ◌%◌, ◌^◌, List, [], sym, refl, ap, subst, arith, bit_or}
 use Rattle.std.proofs.lemmas.Nat.Bits.{and_pow}
 use Rattle.std.specs.Int.Bits.{or_add_and}
 use mathlib.Core.Logic.{dite}
@@ -7,15 +7,13 @@ use mathlib.Core.Option.{none, some-ne-none}
 use native.Mathlib.Decide.{ℕ_discrete, dec_le}
 use Rattle.atomic_table.specs.Table.{step, keeps, Allows}
 use Rattle.mon_words.specs.Words.{stop_bit}
-use Rattle.mon_words.specs.History.{after, HasBases, base_in}
+use Rattle.mon_words.specs.History.{after}
 use Rattle.mon_words.specs.Standing.{Right}
-use Rattle.mon_words.specs.declared.history.Board.{Board}
 use Rattle.mon_words.specs.declared.history.Mark.{Mark}
 use Rattle.mon_words.specs.declared.history.Written.{Written}
 use Rattle.mon_words.proofs.Histories.{begins_all, still-whole}
-use Rattle.mon_words.proofs.Standing.{after-bases}
 use Rattle.mon_gate.specs.Sums.{total}
-use Rattle.mon_gate.specs.Rule.{inside, works, numbered, leads, asks, stops, alive, gate_word, word_at, first_board, first_bases, SeatOk, Kept}
+use Rattle.mon_gate.specs.Rule.{inside, works, numbered, leads, asks, stops, alive, gate_word, word_at, first_board, SeatOk, Kept}
 use Rattle.mon_gate.specs.Plays.{Sat, turned, Goes, found_in, entered, dropped, looked, polled, asked, observed}
 use Rattle.mon_gate.specs.declared.view.View.{View}
 use Rattle.mon_gate.specs.declared.view.Tally.{Tally}
@@ -23,7 +21,7 @@ use Rattle.mon_gate.specs.declared.view.Plan.{Plan}
 use Rattle.mon_gate.specs.declared.view.Phase.{Phase}
 use Rattle.mon_gate.specs.declared.view.Phase.TheVariants.{Out, Attached, Retreating, Idle, Asked, Stopped}
 use Rattle.mon_gate.proofs.Totals.{term_le, total_gap}
-use Rattle.mon_gate.proofs.Frames.{asks_le, stops_le, leaves, in_of, works_of, leads_of, asks_of, bounds, SameNumbers, gate_step}
+use Rattle.mon_gate.proofs.Frames.{asks_le, stops_le, leaves, in_of, works_of, leads_of, asks_of, bounds, SameNumbers, gate_step, has_bases}
 
 -- the tally is nothing to the rule
 retallied : (about : Plan) (log : List Mark) (ws : List ℕ) (v : View) (t : Tally) → SeatOk about log ws v → SeatOk about log ws (record v { tally = t })
@@ -122,9 +120,7 @@ observes about n id m is s r long at fits =
     let p₀ : inside v.phase ≡ 0 = ap inside is in let p₁ : asks v.phase ≡ 1 = ap asks is in let p₂ : leads v.phase ≡ 1 = ap leads is in let p₃ : stops v.phase ≡ 0 = ap stops is in let p₄ : works v.phase ≡ 0 = ap works is in
     let ok = r.seats id v at in let o = ok.leads (omega arith) in let c = o.clean p₃ in
     let w : View = record m.0 { phase = Stopped; seen = log; noted = []; written = []; tally = record m.0.tally { found = x } } in let u : View = record v { tally = record v.tally { found = x } } in
-    let told = ok.told (omega (arith, ap alive is)) in
-    let based : HasBases (map base_in v.first.cells) (after v.first log) =
-    subst (λ (f : Board). HasBases (map base_in f.cells) (after f log)) (sym told.first_is) (after-bases (first_bases about) (first_board about) log r.based r.first) in
+    let based = has_bases about s r id v at (omega (arith, ap alive is)) in
     dite (ℕ_discrete (x % 4294967296) 0)
     (λ none-in. let empty : total in_of s.views ≡ 0 = omega arith in (
       w,

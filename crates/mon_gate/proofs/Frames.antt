@@ -1,6 +1,6 @@
 -- What the steps of the gate have in common: bounds on the sums, the seats that do not step, and all of the rule but what a
 -- step changes.
-use Rattle.std.proofs.Common.{◌≡◌, ℕ, zero, suc, ◌+◌, ◌*◌, ◌<◌, ◌≤◌, ◌≢◌, List, [], ◌∷◌, length, get_or, set, sym, refl, ap, ◌∙◌, subst, ⊎_elim, arith, length-set, get_or-set_other, get_or-set_same}
+use Rattle.std.proofs.Common.{◌≡◌, ℕ, zero, suc, ◌+◌, ◌*◌, ◌<◌, ◌≤◌, ◌≢◌, List, [], ◌∷◌, map, length, get_or, set, sym, refl, ap, ◌∙◌, subst, ⊎_elim, arith, length-set, get_or-set_other, get_or-set_same}
 use mathlib.Core.Logic.{dite}
 use mathlib.Core.Option.{some, some-injective, some-ne-none}
 use native.Mathlib.Decide.{ℕ_discrete, dec_le}
@@ -8,13 +8,14 @@ use lib.ListN.{get_elem?}
 use Rattle.atomic_table.specs.Table.{keeps, stepped}
 use Rattle.atomic_table.proofs.Lists.{at_set, set_here, set_else}
 use Rattle.mon_words.specs.Words.{stop_bit}
-use Rattle.mon_words.specs.History.{after, offs, puts, Begins, Still, UpTo, Based}
+use Rattle.mon_words.specs.History.{after, offs, puts, Begins, Still, UpTo, HasBases, Based, base_in}
 use Rattle.mon_words.specs.Standing.{Right}
 use Rattle.mon_words.specs.declared.history.Board.{Board}
 use Rattle.mon_words.specs.declared.history.Mark.{Mark}
 use Rattle.mon_words.proofs.Histories.{still-quiet}
+use Rattle.mon_words.proofs.Standing.{after-bases}
 use Rattle.mon_gate.specs.Sums.{total, only, once_below}
-use Rattle.mon_gate.specs.Rule.{St, inside, works, numbered, leads, asks, stops, ended_as, has, claims, gate_word, claim_word, count_at, first_board, first_bases, Gated, Numbered, Works, Leads, SeatOk, EachSeat, Counted, Kept}
+use Rattle.mon_gate.specs.Rule.{St, inside, works, numbered, leads, asks, stops, alive, ended_as, has, claims, gate_word, claim_word, count_at, first_board, first_bases, Gated, Numbered, Works, Leads, SeatOk, EachSeat, Counted, Kept}
 use Rattle.mon_gate.specs.Plays.{Sat}
 use Rattle.mon_gate.specs.declared.view.View.{View}
 use Rattle.mon_gate.specs.declared.view.Ended.{Ended}
@@ -311,3 +312,8 @@ same_counts about log ws ws' e c = subst (Counted about.threads log) (sym e) c
 
 pub same_seat : (about : Plan) (log : List Mark) (ws ws' : List ℕ) (v : View) → ws' ≡ ws → SeatOk about log ws v → SeatOk about log ws' v
 same_seat about log ws ws' v e ok = subst (λ (z : List ℕ). SeatOk about log z v) (sym e) ok
+
+-- what a live seat knows of the base opcodes
+pub has_bases : (about : Plan) (s : St) (r : Kept about s) (id : ℕ) (v : View) → get_elem? s.views id ≡ some v → 0 < alive v.phase → HasBases (map base_in v.first.cells) (after v.first r.log)
+has_bases about s r id v at live = let told = (r.seats id v at).told live in
+    subst (λ (f : Board). HasBases (map base_in f.cells) (after f r.log)) (sym told.first_is) (after-bases (first_bases about) (first_board about) r.log r.based r.first)

@@ -25,7 +25,7 @@ use Rattle.mon_gate.specs.declared.view.View.{View}
 use Rattle.mon_gate.specs.declared.view.Plan.{Plan}
 use Rattle.mon_gate.specs.declared.view.Phase.TheVariants.{Attached}
 use Rattle.mon_gate.proofs.Totals.{term_le}
-use Rattle.mon_gate.proofs.Frames.{at_length, works_of, stops_of, has_mine, has_low, has_apart, Stays, seat_frame, longest_set, step_on, a_leader, own_apart, not_stopped}
+use Rattle.mon_gate.proofs.Frames.{at_length, works_of, stops_of, has_mine, has_low, has_apart, Stays, seat_frame, longest_set, step_on, a_leader, own_apart, not_stopped, has_bases}
 
 -- while a thread works, a word of the board is what the history says
 pub stands : (about : Plan) (s : St) (r : Kept about s) (id : ℕ) (v : View) (i j : ℕ) → get_elem? s.views id ≡ some v → v.phase ≡ Attached → i ≡ word_place v.threads j → j < size v.first
@@ -47,7 +47,7 @@ stands about s r id v i j at is place low =
 -- the history that a working seat learns
 adds : (about : Plan) (s : St) (r : Kept about s) (id : ℕ) (v : View) → get_elem? s.views id ≡ some v → v.phase ≡ Attached → Adds v r.log
 adds about s r id v at is = let ok = r.seats id v at in let p₁ : numbered v.phase ≡ 1 = ap numbered is in let p₃ : works v.phase ≡ 1 = ap works is in let o = ok.works (omega arith) in
-    record { begins = ok.begins; own = o.marks; all = sym (o.all (omega arith)) }
+    record { begins = ok.begins; own = o.marks; all = sym (o.all (omega arith)); based = has_bases about s r id v at (omega (arith, ap alive is)) }
 
 -- a word that may stand for what stands already takes the place of one, while a thread works and sees the history
 word_step : (about : Plan) (s : St) (r : Kept about s) (id i j y : ℕ) (m : Sat) → get_elem? s.views id ≡ some m.0 → m.0.phase ≡ Attached → i ≡ word_place m.0.threads j → j < size m.0.first

@@ -42,11 +42,12 @@ pub record Goes (v : View) (log : List Mark) : Type 0 where
   pub own : offs v.number log ≡ v.mine
   pub still : Still (length v.seen) v.number v.stored log
 
--- the same, where nothing but disables was added
+-- the same, where nothing but disables was added; the base opcodes are those of the first board
 pub record Adds (v : View) (log : List Mark) : Type 0 where
   pub begins : Begins v.seen log
   pub own : offs v.number log ≡ v.mine
   pub all : puts log ≡ puts v.seen
+  pub based : HasBases (map base_in v.first.cells) (after v.first log)
 
 -- the seat in this phase, having seen this much and found this gate word
 abbrev pub found_in : Sat → Phase → List Mark → ℕ → Sat
