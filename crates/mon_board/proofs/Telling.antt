@@ -1,8 +1,8 @@
 -- What the calls of a plain handle tell.
-use Rattle.std.proofs.Common.{◌≡◌, ℕ, zero, suc, ◌+◌, ◌<◌, List, [], ◌∷◌, ◌++◌, length, get_or, set, cond, eqb, eq-eqb, refl, sym, ap, ◌∙◌, subst, Bool, true, false, arith, get_or-set_same}
+use Rattle.std.proofs.Common.{◌≡◌, ℕ, zero, suc, ◌+◌, ◌<◌, List, [], ◌∷◌, ◌++◌, map, length, get_or, set, cond, eqb, eq-eqb, refl, sym, ap, ◌∙◌, subst, Bool, true, false, arith, get_or-set_same}
 use Rattle.std.specs.Prelude.{Result, Ok, ◌==◌}
 use Rattle.mon_words.specs.Words.{Shows}
-use Rattle.mon_words.specs.History.{cell_at, after, offs}
+use Rattle.mon_words.specs.History.{cell_at, after, offs, base_in}
 use Rattle.mon_words.specs.Standing.{Stands, overlay}
 use Rattle.mon_words.specs.Told.{Told, Loads, Clears, Retires, LoadsGlobal, LoadsCallbacks, polled_once, Enters}
 use Rattle.mon_words.specs.declared.handle.WorldStopped.{WorldStopped}
@@ -13,17 +13,18 @@ use Rattle.mon_words.proofs.Histories.{begins_all, offs-same, still-whole}
 use Rattle.mon_board.specs.Plain.{standing}
 use Rattle.mon_board.specs.PlainViews.{plain_told, other_counts, other_marks}
 use Rattle.mon_board.specs.declared.plain_view.PlainView.{PlainView}
+use Rattle.mon_board.proofs.Bases.{shown_base}
 
 module _ (t : ℕ) (a : Bool) (v w : PlainView) (running : v.written ≡ []) where
   stood : standing v ≡ after v.first v.seen
   stood = ap (overlay (after v.first v.seen)) running
 
-  pub loads : (l n : ℕ) → w ≡ v → Shows (cell_at (standing v) l) n → Loads (plain_told t a v) l n (plain_told t a w)
-  loads l n same h = subst (λ (z : PlainView). Loads (plain_told t a v) l n (plain_told t a z)) (sym same)
-      record { begins = begins_all v.seen; quiet = refl; own = refl; rest = refl; shows = subst (λ (b : Board). Shows (cell_at b l) n) stood h }
+  pub loads : (l n : ℕ) → map base_in (standing v).cells ≡ map base_in v.first.cells → w ≡ v → Shows (cell_at (standing v) l) n → Loads (plain_told t a v) l n (plain_told t a w)
+  loads l n based same h = subst (λ (z : PlainView). Loads (plain_told t a v) l n (plain_told t a z)) (sym same)
+      record { begins = begins_all v.seen; quiet = refl; own = refl; rest = refl; shows = subst (λ (b : Board). Shows (cell_at b l) n) stood h; base = shown_base (standing v) v.first l n based h }
 
-  pub retires : (l old n : ℕ) (answer : Bool) → w ≡ v → answer ≡ (n == old) → Shows (cell_at (standing v) l) n → Retires (plain_told t a v) l old answer (plain_told t a w)
-  retires l old n answer same is h = record { found = n; loads = loads l n same h; answer_is = is }
+  pub retires : (l old n : ℕ) (answer : Bool) → map base_in (standing v).cells ≡ map base_in v.first.cells → w ≡ v → answer ≡ (n == old) → Shows (cell_at (standing v) l) n → Retires (plain_told t a v) l old answer (plain_told t a w)
+  retires l old n answer based same is h = record { found = n; loads = loads l n based same h; answer_is = is }
 
   pub loads_global : (n : ℕ) → w ≡ v → Stands (standing v) 0 n → LoadsGlobal (plain_told t a v) n (plain_told t a w)
   loads_global n same h = subst (λ (z : PlainView). LoadsGlobal (plain_told t a v) n (plain_told t a z)) (sym same)
