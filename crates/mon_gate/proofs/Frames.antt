@@ -17,6 +17,7 @@ use Rattle.mon_words.proofs.Standing.{after-bases}
 use Rattle.mon_gate.specs.Sums.{total, only, once_below}
 use Rattle.mon_gate.specs.Rule.{St, inside, works, numbered, leads, asks, stops, alive, ended_as, has, claims, gate_word, claim_word, count_at, first_board, first_bases, Gated, Numbered, Works, Leads, SeatOk, EachSeat, Counted, Kept}
 use Rattle.mon_gate.specs.Plays.{Sat}
+use Rattle.mon_gate.specs.Laws.{StoppedIsAlone}
 use Rattle.mon_gate.specs.declared.view.View.{View}
 use Rattle.mon_gate.specs.declared.view.Ended.{Ended}
 use Rattle.mon_gate.specs.declared.view.Plan.{Plan}
@@ -317,3 +318,10 @@ same_seat about log ws ws' v e ok = subst (λ (z : List ℕ). SeatOk about log z
 pub has_bases : (about : Plan) (s : St) (r : Kept about s) (id : ℕ) (v : View) → get_elem? s.views id ≡ some v → 0 < alive v.phase → HasBases (map base_in v.first.cells) (after v.first r.log)
 has_bases about s r id v at live = let told = (r.seats id v at).told live in
     subst (λ (f : Board). HasBases (map base_in f.cells) (after f r.log)) (sym told.first_is) (after-bases (first_bases about) (first_board about) r.log r.based r.first)
+
+pub stopped_is_alone : StoppedIsAlone
+stopped_is_alone about s r i j u v there stopped at attached =
+    let mine : works v.phase ≡ 1 = ap works attached in
+    let theirs : stops u.phase ≡ 1 = ap stops stopped in
+    let none : stops u.phase ≡ 0 = not_stopped about s r j v at mine i u there in
+    absurd (omega arith)

@@ -2,3 +2,4 @@ pub mod Sums
 pub mod Rule
 pub mod Plays
 pub mod Seats
+pub mod Laws

@@ -4,6 +4,7 @@
 
 mod controller;
 mod gate;
+mod laws;
 mod pass;
 mod play;
 mod seat;
@@ -12,6 +13,7 @@ mod view;
 mod wait;
 
 pub use gate::{Asked, Gate, GateFault, Idle, NotYet, Pass, Seat, Stopped};
+pub use laws::stopped_is_alone;
 pub use pass::{claim, join, split};
 pub use play::GateRule;
 pub use turn::idle;
