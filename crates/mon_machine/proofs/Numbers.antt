@@ -1,6 +1,6 @@
 -- The locations of a program by their numbers.
 use Rattle.std.proofs.Common.{◌≡◌, ℕ, zero, suc, ◌+◌, ◌^◌, ◌<◌, List, [], ◌∷◌, ◌++◌, length, map, refl, sym, ap, ◌∙◌, arith, length-append}
-use Rattle.std.specs.Prelude.{Some, option_map, slice_get, if◌then◌else◌}
+use Rattle.std.specs.Prelude.{Some, option_map, slice_get, slice_index_or, if◌then◌else◌}
 use Rattle.std.proofs.lemmas.Option.{same_Some, none-some, get_or_from_slice_get, slice_get-map}
 use Rattle.mon_code.specs.declared.program.Code.{Code}
 use Rattle.mon_code.specs.declared.program.Location.{Location}
@@ -8,7 +8,7 @@ use Rattle.mon_code.specs.Programs.{Parts, location_at}
 use Rattle.mon_code.specs.Checked.{IsChecked, AllCodes}
 use Rattle.mon_words.specs.Words.{cell_of}
 use Rattle.mon_words.specs.History.{cell_at, no_cell}
-use Rattle.mon_words.specs.Told.{plain_board}
+use Rattle.mon_words.specs.declared.history.Board.{Board}
 use Rattle.mon_words.specs.declared.history.Cell.{Cell}
 use Rattle.mon_machine.specs.Serial.{WantsLine, HasLineWants, of_locations, of_codes}
 
@@ -73,16 +73,16 @@ length_codes g bases from (c ∷ cs) a =
 pub length_of_codes : {X : Type 0} (g : ℕ → Location → X) (p : Parts) → IsChecked p → length (of_codes g 0 p.codes) ≡ length p.bases
 length_of_codes g p checked = omega (arith, length_codes g p.bases 0 p.codes checked.codes)
 
--- words that want LINE for one tool at the marked locations, and all of whose bits are live
-pub wants_of_words : (p : Parts) (tool : ℕ) (word : ℕ → Location → ℕ) → IsChecked p → tool < 6
+-- a board of words that want LINE for one tool at the marked locations, and all of whose bits are live
+pub wants_of_words : (p : Parts) (tool : ℕ) (word : ℕ → Location → ℕ) (b : Board) → IsChecked p → tool < 6
     → ((number : ℕ) (l : Location) → ((cell_of (word number l)).want ≡ (if l.is_marked then 2 ^ tool else 0)) × ((cell_of (word number l)).live ≡ 16777215))
-    → HasLineWants p tool (plain_board (of_codes word 0 p.codes))
-wants_of_words p tool word checked within each = record { within = within; cells = cells }
+    → b.cells ≡ map cell_of (of_codes word 0 p.codes) → HasLineWants p tool b
+wants_of_words p tool word b checked within each made = record { within = within; cells = cells }
   where
-    cells : (k i : ℕ) (c : Code) (l : Location) → slice_get p.codes k ≡ Some c → location_at c i ≡ Some l → WantsLine tool (plain_board (of_codes word 0 p.codes)) (c.first + i) l
+    cells : (k i : ℕ) (c : Code) (l : Location) → slice_get p.codes k ≡ Some c → location_at c i ≡ Some l → WantsLine tool b (c.first + i) l
     cells k i c l found stands =
         let words = of_codes word 0 p.codes in
         let n : ℕ = c.first + i in
         let here : slice_get (map cell_of words) n ≡ Some (cell_of (word n l)) = slice_get-map cell_of words n ∙ ap (option_map cell_of) (of_codes_at word p k i c l checked found stands) in
-        let is : cell_at (plain_board words) n ≡ cell_of (word n l) = get_or_from_slice_get (map cell_of words) n (cell_of (word n l)) no_cell here in
+        let is : cell_at b n ≡ cell_of (word n l) = ap (λ (cs : List Cell). slice_index_or cs n no_cell) made ∙ get_or_from_slice_get (map cell_of words) n (cell_of (word n l)) no_cell here in
         record { want = ap (λ (x : Cell). x.want) is ∙ (each n l).0; live = ap (λ (x : Cell). x.live) is ∙ (each n l).1 }

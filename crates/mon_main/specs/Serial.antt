@@ -1,15 +1,15 @@
 -- The serial run of a plan: the plain run of its thread, of which the plan's tool hears the LINE events.
-use Rattle.std.specs.Prelude.{ℕ, List, [], map, Option, Some, None, slice_get, slice_index, ◌^◌, if◌then◌else◌}
+use Rattle.std.specs.Prelude.{ℕ, List, [], ◌∷◌, map, Option, Some, None, slice_get, slice_index, ◌^◌, if◌then◌else◌}
 use Rattle.mon_values.specs.declared.value.Value.{Int}
 use Rattle.mon_code.specs.declared.program.Code.{Code}
 use Rattle.mon_code.specs.declared.program.Location.{Location}
 use Rattle.mon_code.specs.Programs.{Parts}
-use Rattle.mon_words.specs.Words.{word_of}
+use Rattle.mon_words.specs.Words.{word_of, normal}
 use Rattle.mon_recorders.specs.declared.record.Record.{Record}
 use Rattle.mon_recorders.specs.declared.report.Outcome.{Outcome}
 use Rattle.mon_machine.specs.Step.{State, start}
 use Rattle.mon_machine.specs.Run.{after_steps, steps_done, outcome_of}
-use Rattle.mon_machine.specs.Serial.{line_records}
+use Rattle.mon_machine.specs.Serial.{line_records, of_codes}
 use Rattle.mon_main.specs.declared.plan.Plan.{Plan}
 
 pub record Serial : Type 0 where
@@ -33,6 +33,11 @@ serial_in p plan (Some c) = serial_from p plan.tool plan.steps (start c plan.cod
 unfoldable pub serial_of : Parts → Plan → Serial
 serial_of p plan = serial_in p plan (slice_get p.codes plan.code)
 
--- the word of a location before any step: LINE is wanted for the tool where the location is marked, and all bits are live
+-- the word of a location before any step: LINE is wanted for the tool where the location is marked, all bits are live, and
+-- in place stands the opcode that these need
 abbrev pub line_word : List ℕ → ℕ → ℕ → Location → ℕ
-line_word bases tool number l = word_of (record { place = slice_index bases number; base = slice_index bases number; want = if l.is_marked then 2 ^ tool else 0; live = 16777215 })
+line_word bases tool number l = normal (word_of (record { place = slice_index bases number; base = slice_index bases number; want = if l.is_marked then 2 ^ tool else 0; live = 16777215 }))
+
+-- the words that a run begins with: no global event and no callback, and then those of the locations
+abbrev pub words_of_run : Parts → ℕ → List ℕ
+words_of_run p tool = 0 ∷ 0 ∷ 0 ∷ 0 ∷ 0 ∷ 0 ∷ 0 ∷ of_codes (line_word p.bases tool) 0 p.codes

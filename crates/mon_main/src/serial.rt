@@ -1,17 +1,21 @@
-ghost use Rattle.std.specs.Prelude.{◌≡◌, ◌<◌, ◌++◌, length, map, OnOk, IfOk};
+ghost use Rattle.std.specs.Prelude.{◌≡◌, ◌<◌, ◌≤◌, ◌-◌, ◌++◌, length, OnOk, IfOk};
 ghost use Rattle.mon_code.specs.Checked.{IsChecked};
-ghost use Rattle.mon_words.specs.History.{base_in};
-ghost use Rattle.mon_words.specs.Told.{first_told};
-ghost use Rattle.mon_machine.specs.Serial.{of_locations, of_codes, HasLineWants};
+ghost use Rattle.mon_words.specs.Standing.{board_of};
+ghost use Rattle.mon_board.specs.Plain.{first_plain};
+ghost use Rattle.mon_machine.specs.Serial.{of_locations};
 ghost use Rattle.mon_main.specs.Plans.{plan_fits};
-ghost use Rattle.mon_main.specs.Serial.{serial_of, line_word};
+ghost use Rattle.mon_main.specs.Serial.{serial_of, line_word, words_of_run};
 
 use crate::plan::Plan;
+use mon_board::PlainBoard;
 use mon_code::{Code, Location, Program};
 use mon_interp::Thread;
 use mon_recorders::ThreadReport;
-use mon_words::{Handle, Parts, PlainWords, pack};
+use mon_words::{Handle, Parts, normal, pack};
 use std::alloc::{AllocError, Global};
+
+// The words of a board before those of the locations: the global word and six callback words.
+const BEFORE_LOCATIONS: usize = 7;
 
 // The first word of a location.
 fn first_word(bases: &[u8], tool: u8, number: usize, location: &Location) -> u64
@@ -20,45 +24,66 @@ fn first_word(bases: &[u8], tool: u8, number: usize, location: &Location) -> u64
 {
     let base = bases.get(number).copied().unwrap_or(0);
     let want = if location.is_marked { 1 << tool } else { 0 };
-    pack(Parts {
+    normal(pack(Parts {
         place: base,
         base,
         want,
         live: 0xff_ffff,
-    })
+    }))
 }
 
 // Adds the first words of a code's locations.
 fn push_words(words: &mut Vec<u64>, bases: &[u8], tool: u8, code: &Code) -> Result<(), AllocError>
-    requires { tool < 6 }
-    ensures { OnOk result (words.new.items ≡ words.old.items ++ of_locations (line_word bases.now tool) (length words.old.items) code.now.locations) }
+    requires tool { tool < 6 }
+    requires before { 7 ≤ length words.old.items }
+    ensures { OnOk result (words.new.items ≡ words.old.items ++ of_locations (line_word bases.now tool) (length words.old.items - 7) code.now.locations) }
 {
     for location in code.locations.as_slice() {
-        let word = first_word(bases, tool, words.len(), location);
-        words.push(word)?;
+        let number = words.len() - BEFORE_LOCATIONS;
+        words.push(first_word(bases, tool, number, location))?;
     }
     Ok(())
 }
 
 // The words that a run begins with, for a tool that listens to LINE everywhere.
-pub(crate) fn first_words(
+fn first_words(
     alloc: Global,
     program: &Program,
     bases: &[u8],
     tool: u8,
-) -> Result<PlainWords, AllocError>
+) -> Result<Vec<u64>, AllocError>
     requires tool { tool < 6 }
     requires bases { bases.now ≡ program.now.bases }
     ensures checked { IsChecked program.now }
-    ensures told { IfOk result (λ words. ⟦<PlainWords as Handle>⟧.told words ≡ first_told (of_codes (line_word program.now.bases tool) 0 program.now.codes)) }
-    ensures wants { IfOk result (λ words. HasLineWants program.now tool (⟦<PlainWords as Handle>⟧.told words).first) }
-    ensures bases { IfOk result (λ words. map base_in (⟦<PlainWords as Handle>⟧.told words).first.cells ≡ program.now.bases) }
+    ensures words { IfOk result (λ words. words.items ≡ words_of_run program.now tool) }
 {
-    let mut words = Vec::with_capacity(alloc, program.locations() as usize)?;
+    let locations = program.locations() as usize;
+    let mut words = vec![in alloc; 0; BEFORE_LOCATIONS]?;
+    words.reserve(locations)?;
     for code in program.codes.as_slice() {
         push_words(&mut words, bases, tool, code)?;
     }
-    Ok(PlainWords::new(words))
+    Ok(words)
+}
+
+// The board of one thread that a run begins with.
+fn first_board(
+    alloc: Global,
+    program: &Program,
+    bases: &[u8],
+    tool: u8,
+) -> Result<PlainBoard, AllocError>
+    requires tool { tool < 6 }
+    requires bases { bases.now ≡ program.now.bases }
+    ensures checked { IsChecked program.now }
+    ensures threads { IfOk result (λ board. board.threads ≡ 1) }
+    ensures view { IfOk result (λ board. board.chair.me.0 ≡ first_plain 1 (board_of (words_of_run program.now tool))) }
+{
+    let words = first_words(alloc, program, bases, tool)?;
+    let Ok(board) = PlainBoard::new(alloc, 1, words.as_slice()) else {
+        return Err(AllocError);
+    };
+    Ok(board)
 }
 
 /// Runs the plan's thread over words of its own, and reports it.
@@ -75,9 +100,13 @@ pub fn run_serial(
     let Some(code) = program.code(plan.code) else {
         unreachable!()
     };
-    let mut words = first_words(alloc, program, bases, plan.tool)?;
+    let mut board = first_board(alloc, program, bases, plan.tool)?;
     let mut thread = Thread::begin(alloc, code, plan.code, plan.args.as_slice())?;
-    match thread.advance(program, &mut words, plan.steps) {
+    let mut handle = board.handle(0);
+    let Ok(()) = handle.try_enter() else {
+        unreachable!()
+    };
+    match thread.advance(program, &mut handle, plan.steps) {
         Ok(_) => Ok(thread.finish()),
         Err(_) => Err(AllocError),
     }

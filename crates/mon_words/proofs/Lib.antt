@@ -1,1 +1,5 @@
 pub mod Forms
+pub mod Places
+pub mod Histories
+pub mod Clearing
+pub mod Standing

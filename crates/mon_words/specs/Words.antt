@@ -1,5 +1,5 @@
 -- A location's word: bits 0 to 7 the opcode in place, 8 to 15 the base, 16 to 39 what is wanted, 40 to 63 what is live.
-use Rattle.std.specs.Prelude.{◌≡◌, ℕ, ◌+◌, ◌-◌, ◌*◌, ◌/◌, ◌%◌, ◌^◌, ◌≤◌, Bool, ◌&&◌, cond, ◌==◌, nat_lt, bit_and}
+use Rattle.std.specs.Prelude.{◌≡◌, ℕ, ◌+◌, ◌-◌, ◌*◌, ◌/◌, ◌%◌, ◌^◌, ◌<◌, ◌≤◌, Bool, ◌&&◌, cond, ◌==◌, nat_lt, bit_and}
 use Rattle.std.specs.Int.{bit_at}
 use Rattle.mon_events.specs.Events.{place}
 use Rattle.mon_events.specs.declared.event.Slot.{Slot}
@@ -51,3 +51,17 @@ Shows c n = (cell_of n ≡ c) × Allowed c (n % 256)
 -- the word with the least instrumented opcode that is allowed
 abbrev pub normal : ℕ → ℕ
 normal n = n - n % 256 + form (cell_of n).base (need (cell_of n))
+
+-- all ones but the live bit k
+abbrev pub mask_of : ℕ → ℕ
+mask_of k = 18446744073709551615 - 1099511627776 * 2 ^ k
+
+-- the bit of the gate word that stops the world
+abbrev pub stop_bit : ℕ
+stop_bit = 9223372036854775808
+
+-- where the want and the live bit of a slot and a tool stand in a word
+abbrev pub BitPlaces : ℕ → Type 0
+BitPlaces word = (slot : Slot) (tool : ℕ) → tool < 6
+    → (is_bit (cell_of word).want (place slot tool) ≡ is_bit word (16 + place slot tool))
+    × (is_bit (cell_of word).live (place slot tool) ≡ is_bit word (40 + place slot tool))

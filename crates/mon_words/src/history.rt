@@ -24,3 +24,15 @@ pub enum Mark {
     /// The stopped world was released: the step count of each thread, and the board that stands from then on.
     Put(LinkedList<u64>, Board),
 }
+
+/// The step count of a thread, as the controller read it in a stop.
+pub struct Noted {
+    pub number: u64,
+    pub count: u64,
+}
+
+/// A word that the controller stored in a stop. The place counts from the global word on.
+pub struct Written {
+    pub place: u64,
+    pub word: u64,
+}

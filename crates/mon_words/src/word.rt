@@ -72,3 +72,11 @@ pub fn normal(word: u64) -> u64
 {
     word - word % 256 + u64::from(form_in_place(word))
 }
+
+/// A law: in a word the want bit of a slot and a tool is bit 16 + 6 * slot + tool, and the live bit is
+/// bit 40 + 6 * slot + tool.
+pub fn bit_places(word: u64)
+    ensures { spec.BitPlaces word }
+{
+    let _ = word;
+}

@@ -1,43 +1,84 @@
-use Rattle.std.proofs.Common.{◌≡◌, ◌+◌, ◌⊎◌, ℕ, ℤ, List, [], length, map, false, ap, sym, ◌∙◌, arith}
-use Rattle.std.specs.Prelude.{Ok, Some, slice_get}
+use Rattle.std.proofs.Common.{◌≡◌, ◌+◌, ◌<◌, ◌⊎◌, ℕ, ℤ, List, [], length, map, false, refl, ap, sym, ◌∙◌, subst, arith}
+use Rattle.std.specs.Prelude.{Ok, Some, slice_get, slice_index}
 use Rattle.std.proofs.lemmas.List.{length-map}
 use Rattle.mon_values.specs.declared.value.Value.{Int}
 use Rattle.mon_code.specs.declared.program.Code.{Code}
 use Rattle.mon_code.specs.Programs.{Parts}
 use Rattle.mon_machine.specs.Step.{start, goes}
-use Rattle.mon_machine.specs.Run.{Progress}
+use Rattle.mon_machine.specs.Run.{Progress, Ran}
 use Rattle.mon_machine.specs.Laws.{IsCall}
 use Rattle.mon_machine.proofs.Fitting.{checked_code}
-use Rattle.mon_words.specs.Told.{plain_board}
+use Rattle.mon_words.specs.History.{base_in, offs}
+use Rattle.mon_words.specs.Standing.{board_of}
+use Rattle.mon_words.specs.Told.{Told}
+use Rattle.mon_words.specs.declared.history.Board.{Board}
+use Rattle.mon_words.specs.declared.history.Mark.{Mark}
+use Rattle.mon_board.specs.Plain.{first_plain}
+use Rattle.mon_board.specs.PlainViews.{other_marks}
+use Rattle.mon_board.specs.declared.plain.PlainBoard.{PlainBoard}
+use Rattle.mon_board.specs.declared.plain_rest.PlainRest.{PlainRest}
+use Rattle.mon_board.specs.declared.plain_view.PlainView.{PlainView}
 use Rattle.mon_interp.specs.Threads.{ThreadView}
 use Rattle.mon_interp.specs.declared.thread.Stop.{Stop}
 use Rattle.mon_main.specs.declared.plan.Plan.{Plan}
-use Rattle.mon_main.specs.Serial.{Serial}
-use Rattle.mon_main.proofs.Serials.{serial_ran, serial_found, stops, fits_parameters}
+use Rattle.mon_main.specs.Serial.{Serial, words_of_run}
+use Rattle.mon_main.proofs.Serials.{serial_ran, serial_found, stops, fits_parameters, first_words-want, first_words-bases, no_marks}
 use Rattle.mon_main.proofs.serial.run_serial.Goals as goal
 
 pub begin-requires : goal.begin-requires
 begin-requires c =
     let p : Parts = c.args.program.now in
     let found : slice_get p.codes c.args.plan.now.code ≡ Some c.in-Some.code.now = sym c.in-Some.ensures.value in
-    let code = checked_code p c.args.plan.now.code c.in-Some.code.now c.first_words.ensures.checked found in
+    let code = checked_code p c.args.plan.now.code c.in-Some.code.now c.first_board.ensures.checked found in
     let count : length c.args.plan.now.args ≡ c.in-Some.code.now.parameters = fits_parameters (slice_get p.codes c.args.plan.now.code) c.in-Some.code.now (length c.args.plan.now.args) found c.requires.fits.args in
     let long : length c.as_slice.result.now ≡ length c.args.plan.now.args = ap (λ (l : List ℤ). length l) c.as_slice.ensures in
     omega (arith, code.parameters, count, long)
 
-pub returns-in-Ok : goal.returns-in-Ok
-returns-in-Ok c =
+-- the handle's board is the one that the run begins with
+module _ (p : Parts) (tool : ℕ) (v : PlainView) (b : PlainBoard) (h : PlainBoard) (begins : b.chair.me.0 ≡ first_plain 1 (board_of (words_of_run p tool))) (taken : h.chair.me.0 ≡ record b.chair.me.0 { current = 0 }) (same : v ≡ h.chair.me.0) where
+  board : v ≡ record (first_plain 1 (board_of (words_of_run p tool))) { current = 0 }
+  board = same ∙ (taken ∙ ap (λ (z : PlainView). record z { current = 0 }) begins)
+
+  first : v.first ≡ board_of (words_of_run p tool)
+  first = ap (λ (z : PlainView). z.first) board
+
+  unseen : v.seen ≡ []
+  unseen = ap (λ (z : PlainView). z.seen) board
+
+pub advance-requires-clause-bases : goal.advance-requires-clause-bases
+advance-requires-clause-bases c =
+    let p : Parts = c.args.program.now in
+    let tool : ℕ = c.args.plan.now.tool in
+    let small : (n : ℕ) → slice_index p.bases n < 256 = λ n. subst (λ (b : List ℕ). slice_index b n < 256) c.requires.bases (omega (arith, c.type_inv.bases n)) in
+    let is = first p tool c.try_enter.new.self.board.now.chair.me.0 c.in_ok-board.board c.handle-handle.result.board.now c.in_ok-board.ensures.view c.handle-handle.ensures.view (ap (λ (b : PlainBoard). b.chair.me.0) c.try_enter.ensures.value.0) in
+    ap (λ (b : Board). map base_in b.cells) is ∙ first_words-bases p tool c.first_board.ensures.checked c.requires.fits.tool small
+
+pub returns-in-Ok-advance : goal.returns-in-Ok-advance
+returns-in-Ok-advance c =
     let p : Parts = c.args.program.now in
     let plan : Plan = c.args.plan.now in
     let code : Code = c.in-Some.code.now in
+    let small : (n : ℕ) → slice_index p.bases n < 256 = λ n. subst (λ (b : List ℕ). slice_index b n < 256) c.requires.bases (omega (arith, c.type_inv.bases n)) in
     let found : slice_get p.codes plan.code ≡ Some code = sym c.in-Some.ensures.value in
     let count : length plan.args ≡ code.parameters = fits_parameters (slice_get p.codes plan.code) code (length plan.args) found c.requires.fits.args in
-    let call : IsCall p plan.code code (map Int plan.args) = record { checked = c.first_words.ensures.checked; found = found; count = length-map plan.args Int ∙ count } in
+    let call : IsCall p plan.code code (map Int plan.args) = record { checked = c.first_board.ensures.checked; found = found; count = length-map plan.args Int ∙ count } in
     let old : Progress = c.in_ok-thread.thread.progress in
     let new : Progress = c.advance.new.self.progress in
     let begins : old ≡ record { state = start code plan.code (map Int plan.args); records = []; steps = 0 }
     = ap (λ (t : ThreadView). t.progress) c.in_ok-thread.ensures ∙ ap (λ (l : List ℤ). let x : Progress = record { state = start code plan.code (map Int l); records = []; steps = 0 } in x) c.as_slice.ensures in
     let ends : (goes new.state.mode ≡ false) ⊎ (new.steps ≡ old.steps + plan.steps)
-    = stops c.in-Ok.field-0 (λ e. (c.in-Ok.ensures.spent (ap (λ (s : Stop). Ok s) e)).1) (λ e. c.in-Ok.ensures.ended (ap (λ (s : Stop). Ok s) e)) in
-    let ran = serial_ran p plan.code code (map Int plan.args) plan.tool (plain_board c.in_ok-words.words.words.items) old new plan.steps call c.in_ok-words.ensures.wants begins c.in-Ok.ensures.run ends c.in-Ok.ensures.counted.1 ∙ sym (serial_found p plan code found) in
+    = stops c.in-Ok-advance.field-0 (λ e. (c.in-Ok-advance.ensures.spent (ap (λ (s : Stop). Ok s) e)).1) (λ e. c.in-Ok-advance.ensures.ended (ap (λ (s : Stop). Ok s) e)) in
+    let t : ℕ = c.try_enter.new.self.thread in
+    let v : PlainView = c.try_enter.new.self.board.now.chair.me.0 in
+    let w : PlainView = c.advance.new.handle.board.now.chair.me.0 in
+    let same : v ≡ c.handle-handle.result.board.now.chair.me.0 = ap (λ (b : PlainBoard). b.chair.me.0) c.try_enter.ensures.value.0 in
+    let board : v.first ≡ board_of (words_of_run p plan.tool) = first p plan.tool v c.in_ok-board.board c.handle-handle.result.board.now c.in_ok-board.ensures.view c.handle-handle.ensures.view same in
+    let before : v.seen ≡ [] = unseen p plan.tool v c.in_ok-board.board c.handle-handle.result.board.now c.in_ok-board.ensures.view c.handle-handle.ensures.view same in
+    let number : c.advance.new.handle.thread ≡ t = ap (λ (a : Told). a.number) c.advance.ensures.sees.rest in
+    let own : offs t w.seen ≡ [] = c.advance.ensures.sees.own refl ∙ ap (offs t) before in
+    let others : other_marks t w.seen ≡ [] = ap (λ n. other_marks n w.seen) (sym number) ∙ ap (λ (r : PlainRest). r.marks) c.advance.ensures.rest ∙ ap (other_marks t) before in
+    let after : w.seen ≡ [] = no_marks t w.seen own others in
+    let run : Ran p (board_of (words_of_run p plan.tool)) [] [] old new = subst (λ (z : Board × List Mark × List Mark). Ran p z.0 z.1 z.2 old new) (λ i. (board i, before i, after i)) c.in-Ok-advance.ensures.run in
+    let wants = first_words-want p plan.tool c.first_board.ensures.checked c.requires.fits.tool small in
+    let ran = serial_ran p plan.code code (map Int plan.args) plan.tool (board_of (words_of_run p plan.tool)) old new plan.steps call wants begins run ends c.in-Ok-advance.ensures.counted.1 ∙ sym (serial_found p plan code found) in
     (c.finish.ensures.records ∙ ap (λ (s : Serial). s.records) ran, c.finish.ensures.steps ∙ ap (λ (s : Serial). s.steps) ran, c.finish.ensures.outcome ∙ ap (λ (s : Serial). s.outcome) ran)

@@ -1,0 +1,4 @@
+pub mod Bases
+pub mod Steps
+pub mod Keeping
+pub mod Telling

@@ -1,0 +1,4 @@
+pub mod Views
+pub mod Plain
+pub mod PlainViews
+pub mod SameBoard

@@ -1,0 +1,61 @@
+//! The rule of a plain board, and the names of its kinds of step.
+ghost use Rattle.mon_board.specs.Plain.{PlainKept, starting, turned_to, polled, found, disabled, counted, noted, stored, released};
+
+use crate::plain_view::{PlainPlan, PlainView};
+use atomic_table::{Play, TableRule};
+
+pub struct PlainRule;
+
+impl TableRule<(), PlainView, PlainPlan> for PlainRule {
+    ghost holds = { PlainKept };
+
+    ghost first = { starting };
+}
+
+pub struct Turn;
+
+impl Play<(), PlainView> for Turn {
+    ghost then = { turned_to };
+}
+
+pub struct Poll;
+
+impl Play<(), PlainView> for Poll {
+    ghost then = { polled };
+}
+
+pub struct Find;
+
+impl Play<(), PlainView> for Find {
+    ghost then = { found };
+}
+
+pub struct Disable;
+
+impl Play<(), PlainView> for Disable {
+    ghost then = { disabled };
+}
+
+pub struct Count;
+
+impl Play<(), PlainView> for Count {
+    ghost then = { counted };
+}
+
+pub struct Note;
+
+impl Play<(), PlainView> for Note {
+    ghost then = { noted };
+}
+
+pub struct Store;
+
+impl Play<(), PlainView> for Store {
+    ghost then = { stored };
+}
+
+pub struct Release;
+
+impl Play<(), PlainView> for Release {
+    ghost then = { released };
+}

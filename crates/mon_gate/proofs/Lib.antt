@@ -1,0 +1,11 @@
+pub mod Totals
+pub mod Frames
+pub mod Doors
+pub mod Words
+pub mod Counts
+pub mod Stops
+pub mod Claims
+pub mod Passes
+pub mod Starts
+pub mod Trying
+pub mod Storing

@@ -1,0 +1,160 @@
+-- What each kind of step tells: of the step, the seat before, the number found (at a store, the number stored) and the seat
+-- after.
+use Rattle.std.specs.Prelude.{◌≡◌, ◌≢◌, ◌⊎◌, ℕ, ◌+◌, ◌-◌, ◌%◌, ◌<◌, ◌≤◌, List, [], ◌∷◌, ◌++◌, map, length, nat_lt, nat_le, min, Some, if◌then◌else◌}
+use mathlib.Core.Option.{some}
+use lib.ListN.{get_elem?}
+use Rattle.atomic_table.specs.Table.{Me, Step}
+use Rattle.mon_words.specs.Words.{Shows, mask_of, stop_bit}
+use Rattle.mon_words.specs.History.{cell_at, after, offs, puts, Begins, Still, UpTo, HasBases, base_in}
+use Rattle.mon_words.specs.Standing.{Stands, overlay, noted_of, count_of, table}
+use Rattle.mon_words.specs.declared.history.Board.{Board}
+use Rattle.mon_words.specs.declared.history.Mark.{Mark}
+use Rattle.mon_words.specs.declared.history.Mark.TheVariants.{Off, Put}
+use Rattle.mon_gate.specs.Rule.{numbered, leads, no_tally}
+use Rattle.mon_gate.specs.declared.view.View.{View}
+use Rattle.mon_gate.specs.declared.view.Tally.{Tally}
+use Rattle.mon_gate.specs.declared.view.Ended.{Ended}
+use Rattle.mon_gate.specs.declared.view.Phase.{Phase}
+use Rattle.mon_gate.specs.declared.view.Phase.TheVariants.{Plain, Out, Attached, Retreating, Idle, Asked, Stopped}
+
+abbrev pub Sat : Type 0
+Sat = Me (Unit {0}) View
+
+abbrev pub Tells : Type 1
+Tells = Step (Unit {0}) → Sat → ℕ → Sat → Type 0
+
+-- the seat, in this phase, having seen this much
+abbrev pub turned : Sat → Phase → List Mark → Sat
+turned m p log = (record m.0 { phase = p; seen = log }, m.1)
+
+-- the number of the step's word among the words of the board
+abbrev pub spot : Step (Unit {0}) → Sat → ℕ
+spot st m = st.word - (2 + m.0.threads)
+
+abbrev pub claimed : Tells
+claimed st m n m' = (n < m.0.threads) × (m.0.threads < 256) × UpTo n 0 m.0.seen × (offs n m.0.seen ≡ [])
+    × (m' ≡ (record m.0 { phase = Out; number = n; stored = 0; mine = []; tickets = m.0.tickets - 1 }, m.1))
+
+-- a history that goes on from what was seen: the seat's own disables in it are those that it made, and each board added has
+-- its count
+pub record Goes (v : View) (log : List Mark) : Type 0 where
+  pub begins : Begins v.seen log
+  pub own : offs v.number log ≡ v.mine
+  pub still : Still (length v.seen) v.number v.stored log
+
+-- the same, where nothing but disables was added; the base opcodes are those of the first board
+pub record Adds (v : View) (log : List Mark) : Type 0 where
+  pub begins : Begins v.seen log
+  pub own : offs v.number log ≡ v.mine
+  pub all : puts log ≡ puts v.seen
+  pub based : HasBases (map base_in v.first.cells) (after v.first log)
+
+-- the seat in this phase, having seen this much and found this gate word
+abbrev pub found_in : Sat → Phase → List Mark → ℕ → Sat
+found_in m p log n = (record m.0 { phase = p; seen = log; tally = record m.0.tally { found = n } }, m.1)
+
+abbrev pub entered : Tells
+entered st m n m' = (n < stop_bit → (log : List Mark) × Goes m.0 log × (m' ≡ found_in m Attached log n))
+    × (stop_bit ≤ n → (log : List Mark) × Goes m.0 log × (m' ≡ found_in m Retreating log n))
+
+abbrev pub dropped : Tells
+dropped st m n m' = m' ≡ turned m Out m.0.seen
+
+-- a poll that found the gate word n
+abbrev pub looked : Tally → ℕ → Tally
+looked t n = record { polls = t.polls + 1; polled = if nat_le stop_bit n then t.polled + 1 else t.polled; found = n }
+
+abbrev pub polled : Tells
+polled st m n m' = m' ≡ (record m.0 { tally = looked m.0.tally n }, m.1)
+
+abbrev pub counted : Tells
+counted st m n m' = m' ≡ (record m.0 { stored = n }, m.1)
+
+abbrev pub asked : Tells
+asked st m n m' = m' ≡ turned m Asked m.0.seen
+
+abbrev pub observed : Tells
+observed st m n m' = (n % 4294967296 ≡ 0 → (log : List Mark) × Begins m.0.seen log × (puts log ≡ m.0.mine)
+    × HasBases (map base_in m.0.first.cells) (after m.0.first log)
+    × (m' ≡ (record m.0 { phase = Stopped; seen = log; noted = []; written = []; tally = record m.0.tally { found = n } }, m.1)))
+    × (n % 4294967296 ≢ 0 → m' ≡ (record m.0 { tally = record m.0.tally { found = n } }, m.1))
+
+-- a load of a word of the board by a thread
+abbrev pub loaded : Tells
+loaded st m n m' = (log : List Mark) × Adds m.0 log × Stands (after m.0.first log) (spot st m) n × (m' ≡ turned m m.0.phase log)
+
+abbrev pub off_of : Step (Unit {0}) → Sat → ℕ → Mark
+off_of st m k = Off m.0.number (spot st m - 7) k
+
+-- a disable, by the bit that the mask clears
+abbrev pub disabled : Tells
+disabled st m n m' = (k : ℕ) → k < 24 → st.first ≡ mask_of k
+    → (log : List Mark) × Adds m.0 log × Shows (cell_at (after m.0.first log) (spot st m - 7)) n
+    × (m' ≡ (record m.0 { seen = log ++ off_of st m k ∷ []; mine = m.0.mine ++ off_of st m k ∷ [] }, m.1))
+
+-- the board that stands in a stop
+abbrev pub standing : View → Board
+standing v = overlay (after v.first v.seen) v.written
+
+abbrev pub read : Tells
+read st m n m' = Stands (standing m.0) (spot st m) n × (m' ≡ m)
+
+abbrev pub stored : Tells
+stored st m n m' = m' ≡ (record m.0 { written = record { place = spot st m; word = n } ∷ m.0.written }, m.1)
+
+-- the count of a thread: it is that of an earlier note, and no board of the history has more
+abbrev pub noted : Tells
+noted st m n m' = ((c : ℕ) → noted_of m.0.noted (st.word - 2) ≡ Some c → n ≡ c) × UpTo (st.word - 2) n m.0.seen
+    × (m' ≡ (record m.0 { noted = record { number = st.word - 2; count = n } ∷ m.0.noted }, m.1))
+
+-- the mark of a release: the counts that were noted and the board that stands
+abbrev pub put_of : View → Mark
+put_of v = Put (table v.threads (count_of v.noted)) (standing v)
+
+-- while the first pass has every ticket, each count noted is 0
+abbrev pub released : Tells
+released st m n m' = (m.0.tickets ≡ m.0.threads → (t : ℕ) → t < m.0.threads → count_of m.0.noted t ≡ 0)
+    × (m' ≡ (record m.0 { phase = Idle; seen = m.0.seen ++ put_of m.0 ∷ []; mine = m.0.mine ++ put_of m.0 ∷ []; noted = []; written = [] }, m.1))
+
+-- one ticket where there is one
+abbrev pub handed : ℕ → ℕ
+handed tickets = min tickets 1
+
+abbrev pub cut_left : View → View
+cut_left v = record v { tickets = v.tickets - handed v.tickets }
+
+abbrev pub cut_right : View → View
+cut_right v = record v { phase = Plain; number = 0; stored = 0; tickets = handed v.tickets; mine = []; ended = []; noted = []; written = []; tally = no_tally }
+
+abbrev pub ended_of : View → Ended
+ended_of v = record { number = v.number; marks = v.mine; last = v.stored; seen = v.seen }
+
+-- the numbers that end where a view is joined into another
+abbrev pub closed : View → List Ended
+closed v = if nat_lt 0 (numbered v.phase) then ended_of v ∷ v.ended else v.ended
+
+abbrev pub longer : List Mark → List Mark → List Mark
+longer xs ys = if nat_lt (length xs) (length ys) then ys else xs
+
+abbrev pub joined : View → View → View
+joined v w = record v { tickets = v.tickets + w.tickets; ended = v.ended ++ closed w; seen = longer v.seen w.seen }
+
+-- what a number that ended did, as far as a history goes
+pub record Past (log : List Mark) (threads : ℕ) (e : Ended) : Type 0 where
+  pub low : e.number < threads
+  pub marks : offs e.number log ≡ e.marks
+  pub begins : Begins e.seen log
+  pub still : Still (length e.seen) e.number e.last log
+
+-- What a pass knows of the whole history. The boards are the first pass's own. The disables of each number that it took in
+-- are that number's own, and the numbers are distinct. If it took in all numbers, no other number has a disable.
+pub record Whole (v : View) (log : List Mark) : Type 0 where
+  pub begins : Begins v.seen log
+  pub changes : 0 < leads v.phase → puts log ≡ v.mine
+  pub goes : 0 < numbered v.phase → Goes v log
+  pub past : (j : ℕ) (e : Ended) → get_elem? v.ended j ≡ some e → Past log v.threads e
+  pub apart : (i j : ℕ) (e f : Ended) → i ≢ j → get_elem? v.ended i ≡ some e → get_elem? v.ended j ≡ some f → e.number ≢ f.number
+  pub all : length v.ended ≡ v.threads → (x : ℕ) → (offs x log ≡ []) ⊎ ((j : ℕ) × (e : Ended) × (get_elem? v.ended j ≡ some e) × (e.number ≡ x))
+
+abbrev pub settled : Tells
+settled st m n m' = (log : List Mark) × Whole m.0 log × (m' ≡ turned m m.0.phase log)
