@@ -1,4 +1,5 @@
 use super::compile_function;
+use crate::compile_text;
 use crate::text::read_function;
 use mon_code::Location;
 use std::alloc::Global;
@@ -118,8 +119,7 @@ fn longest(alloc: Global) -> Result<String, Fail> {
 #[test]
 fn the_longest_text_is_compiled(rt: HostRuntime) -> Result<(), Fail> {
     let text = longest(rt.alloc())?;
-    let function = read_function(rt.alloc(), text.as_bytes())?;
-    let (program, bases) = compile_function(rt.alloc(), &function)?;
+    let (program, bases) = compile_text(rt.alloc(), text.as_bytes())?;
     assert_eq!(rt; bases.len(), 3277);
     assert_eq!(rt; program.locations(), 3277);
     assert_eq!(rt; program.code_named("f"), Some(0));
