@@ -49,11 +49,13 @@ fn is_plan(
 ) -> Result<bool, AllocError> {
     match plan(alloc, PROGRAM, text)? {
         None => Ok(false),
-        Some(plan) => Ok(plan.steps == steps
-            && plan.code == 0
-            && plan.args.as_slice() == [arg].as_slice()
-            && is_user(&plan, tool, name)
-            && plan.sets_first == sets_first),
+        Some(plan) => Ok(
+            plan.steps == steps
+                && plan.code == 0
+                && plan.args.as_slice() == [arg].as_slice()
+                && is_user(&plan, tool, name)
+                && plan.sets_first == sets_first,
+        ),
     }
 }
 
