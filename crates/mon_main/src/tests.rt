@@ -317,3 +317,40 @@ fn an_exception_is_reported(rt: HostRuntime) -> Result<(), Fail> {
     assert!(rt; sum_ends(rt.alloc(), end)?);
     Ok(())
 }
+
+#[test]
+fn calls_are_reported_in_the_order_of_the_plan(rt: HostRuntime) -> Result<(), Fail> {
+    let plan =
+        "steps 0\nthread f 3\nbefore\nuse_tool_id 5 a.b\nregister_callback 5 LINE keep\nset_events 5 LINE\n";
+    let want =
+        "journal before use_tool_id 5 a.b = None\njournal before register_callback 5 LINE keep = None at 0\njournal before set_events 5 LINE = None at 0\nthread 0 f\nend 0 limit\n";
+    assert!(rt; replays_to(rt.alloc(), LOOP, plan, Status::Done, want)?);
+    Ok(())
+}
+
+/// Whether a replay of 250 rounds of the loop, where the write with the number `failing` fails, ends with this status and
+/// leaves so many bytes of its report.
+fn reports_part(
+    alloc: Global,
+    failing: u64,
+    status: Status,
+    kept: usize,
+) -> Result<bool, AllocError> {
+    let text = plan(alloc, "3000", "f 250")?;
+    let (_, whole) = replayed(alloc, LOOP, text.as_str())?;
+    let words = texts(alloc, &["replay", "program", "plan"])?;
+    let mut store = store(alloc, LOOP, text.as_str())?;
+    let mut out = sink(alloc, &[failing])?;
+    let got = host_serial(alloc, words.as_slice(), &mut store, &mut out);
+    Ok(got == status && whole.as_slice().get(..kept) == Some(out.bytes.as_slice()))
+}
+
+#[test]
+fn a_failed_write_ends_the_report(rt: HostRuntime) -> Result<(), Fail> {
+    let alloc = rt.alloc();
+    assert!(rt; reports_part(alloc, 0, Status::WriteFault, 2048)?);
+    assert!(rt; reports_part(alloc, 1, Status::WriteFault, 6144)?);
+    assert!(rt; reports_part(alloc, 2, Status::WriteFault, 9_089)?);
+    assert!(rt; reports_part(alloc, 3, Status::Done, 9_986)?);
+    Ok(())
+}
