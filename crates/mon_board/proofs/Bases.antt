@@ -2,7 +2,7 @@
 use Rattle.std.proofs.Common.{◌≡◌, ℕ, zero, suc, List, [], ◌∷◌, map, get_or, refl, sym, ap, ◌∙◌}
 use Rattle.mon_words.specs.Words.{cell_of, Shows}
 use Rattle.mon_words.specs.History.{no_cell, cell_at, after, base_in}
-use Rattle.mon_words.specs.Told.{Loads, Retires}
+use Rattle.mon_words.specs.Told.{Loads}
 use Rattle.mon_words.specs.declared.history.Cell.{Cell}
 use Rattle.mon_words.specs.declared.history.Board.{Board}
 use Rattle.mon_gate.specs.Plays.{Adds}

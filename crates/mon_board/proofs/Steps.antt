@@ -1,6 +1,6 @@
 -- Each step of the one seat keeps the rule.
-use Rattle.std.proofs.Common.{◌≡◌, ℕ, zero, suc, ◌+◌, ◌-◌, ◌%◌, ◌^◌, ◌<◌, ◌≤◌, ◌≢◌, List, [], ◌∷◌, ◌++◌, map, drop, length, get_or, set, replicate, sym, refl, ap, ◌∙◌, subst, ⊎_elim, arith, length-set, get_or-set_other, get_or-set_same, bit_and, eqb, Bool, true}
-use Rattle.std.specs.Prelude.{Option, Some, None, is_some}
+use Rattle.std.proofs.Common.{◌≡◌, ℕ, zero, suc, ◌+◌, ◌-◌, ◌%◌, ◌<◌, ◌≤◌, ◌≢◌, List, [], ◌∷◌, ◌++◌, map, drop, length, get_or, set, replicate, sym, refl, ap, ◌∙◌, subst, ⊎_elim, arith, length-set, get_or-set_other, get_or-set_same, bit_and, eqb, true}
+use Rattle.std.specs.Prelude.{is_some}
 use mathlib.Core.Logic.{dite}
 use mathlib.Core.Option.{none, some, some-injective, some-ne-none}
 use native.Mathlib.Decide.{ℕ_discrete}
@@ -10,7 +10,7 @@ use prog.Atomic.{either}
 use Rattle.atomic_table.specs.Table.{State, step, keeps, Allows, opening}
 use Rattle.atomic_table.proofs.Lists.{exchanged, at_set}
 use Rattle.mon_words.specs.Words.{cell_of, mask_of, normal, Allowed, Shows}
-use Rattle.mon_words.specs.History.{cell_at, clear_at, after, UpTo, HasBases, Based, base_in}
+use Rattle.mon_words.specs.History.{cell_at, clear_at, after, UpTo, HasBases, base_in}
 use Rattle.mon_words.specs.Standing.{size, board_of, IsFirst, Stands, Fine, Right, overlay, noted_of, count_of, table}
 use Rattle.mon_words.specs.declared.history.Board.{Board}
 use Rattle.mon_words.specs.declared.history.Mark.{Mark}

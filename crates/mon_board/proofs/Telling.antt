@@ -1,11 +1,10 @@
 -- What the calls of a plain handle tell.
-use Rattle.std.proofs.Common.{◌≡◌, ℕ, zero, suc, ◌+◌, ◌<◌, List, [], ◌∷◌, ◌++◌, map, length, get_or, set, cond, eqb, eq-eqb, refl, sym, ap, ◌∙◌, subst, Bool, true, false, arith, get_or-set_same}
-use Rattle.std.specs.Prelude.{Result, Ok, ◌==◌}
+use Rattle.std.proofs.Common.{◌≡◌, ℕ, zero, suc, ◌+◌, ◌<◌, List, [], ◌∷◌, ◌++◌, map, get_or, set, cond, eqb, eq-eqb, refl, sym, ap, ◌∙◌, subst, Bool, true}
+use Rattle.std.specs.Prelude.{Ok, ◌==◌}
 use Rattle.mon_words.specs.Words.{Shows}
-use Rattle.mon_words.specs.History.{cell_at, after, offs, base_in}
+use Rattle.mon_words.specs.History.{cell_at, after, base_in}
 use Rattle.mon_words.specs.Standing.{Stands, overlay}
-use Rattle.mon_words.specs.Told.{Told, Loads, Clears, Retires, LoadsGlobal, LoadsCallbacks, polled_once, Enters}
-use Rattle.mon_words.specs.declared.handle.WorldStopped.{WorldStopped}
+use Rattle.mon_words.specs.Told.{Loads, Clears, Retires, LoadsGlobal, LoadsCallbacks, Enters}
 use Rattle.mon_words.specs.declared.history.Board.{Board}
 use Rattle.mon_words.specs.declared.history.Mark.{Mark}
 use Rattle.mon_words.specs.declared.history.Mark.TheVariants.{Off, Put}

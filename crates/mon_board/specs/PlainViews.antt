@@ -1,5 +1,5 @@
 -- What the one seat of a plain board tells of a thread, and of the halted board.
-use Rattle.std.specs.Prelude.{◌≡◌, ℕ, Bool, List, [], ◌∷◌, cond, ◌==◌, length, slice_index, slice_set, IsTrue, is_some}
+use Rattle.std.specs.Prelude.{◌≡◌, ℕ, Bool, List, [], ◌∷◌, cond, ◌==◌, slice_index, slice_set, IsTrue, is_some}
 use Rattle.mon_words.specs.History.{offs}
 use Rattle.mon_words.specs.Told.{Told}
 use Rattle.mon_words.specs.Halted.{Halt}

@@ -1,5 +1,5 @@
 -- What a seat and a stopped controller of a gate tell.
-use Rattle.std.specs.Prelude.{ℕ, Bool, true, false}
+use Rattle.std.specs.Prelude.{Bool, true, false}
 use Rattle.mon_words.specs.Told.{Told}
 use Rattle.mon_words.specs.Halted.{Halt}
 use Rattle.mon_words.specs.Standing.{noted_of, rewrites}

@@ -1,4 +1,4 @@
-use Rattle.std.proofs.Common.{arith, ap, sym, ◌≡◌, ◌∙◌, subst, ℕ, List, [], ◌++◌, replicate}
+use Rattle.std.proofs.Common.{ap, sym, ◌≡◌, ◌∙◌, subst, ℕ, List, [], ◌++◌, replicate}
 use Rattle.atomic_table.specs.Table.{opening}
 use Rattle.mon_board.specs.Plain.{PlainKept, starting}
 use Rattle.mon_board.specs.declared.plain_view.PlainPlan.{PlainPlan}

@@ -1,4 +1,4 @@
-use Rattle.std.proofs.Common.{rules, arith, refl, ◌+◌}
+use Rattle.std.proofs.Common.{rules, arith, refl}
 use Rattle.mon_board.proofs.Steps.{retires}
 use Rattle.mon_board.proofs.plain.PlainBoard.retire.Goals as goal
 

@@ -1,5 +1,4 @@
-use Rattle.std.proofs.Common.{ap, ◌≡◌, ◌∙◌, ℕ, List}
-use Rattle.mon_words.specs.declared.history.Mark.{Mark}
+use Rattle.std.proofs.Common.{ap, ◌≡◌, ◌∙◌}
 use Rattle.mon_board.specs.PlainViews.{other_counts, other_marks}
 use Rattle.mon_board.specs.declared.plain_view.PlainView.{PlainView}
 use Rattle.mon_board.proofs.Telling.{other_counts-set}

@@ -1,5 +1,3 @@
-use Rattle.std.proofs.Common.{refl}
-use Rattle.mon_board.specs.declared.plain_view.PlainView.{PlainView}
 use Rattle.mon_board.proofs.Telling.{enters}
 use Rattle.mon_board.proofs.plain_handle.PlainHandleHandle.try_enter.Goals as goal
 
