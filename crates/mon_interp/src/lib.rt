@@ -5,6 +5,8 @@
 mod execute;
 mod hear;
 mod machine;
+#[cfg(test)]
+mod tests;
 mod thread;
 
 pub use thread::{AdvanceFault, EntryFault, Stop, Thread};
