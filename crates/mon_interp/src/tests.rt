@@ -21,16 +21,17 @@ use std::test::Fail;
 struct LoudWords<'a, R: Abort> {
     rt: &'a R,
     words: Vec<u64>,
+    attached: bool,
     loads: u64,
 }
 
 impl<R: Abort> Handle for LoudWords<'_, R> {
-    ghost use Rattle.std.specs.Prelude.{map, true, []};
+    ghost use Rattle.std.specs.Prelude.{map, []};
     ghost use Rattle.mon_words.specs.Words.{cell_of};
 
     type Rest = ();
 
-    ghost told = { λ w. record { number = 0; first = record { global = 0; callbacks = []; cells = map cell_of w.words.items }; seen = []; own = []; attached = true; count = 0; polls = 0; polled = 0 } };
+    ghost told = { λ w. record { number = 0; first = record { global = 0; callbacks = []; cells = map cell_of w.words.items }; seen = []; own = []; attached = w.attached; count = 0; polls = 0; polled = 0 } };
 
     ghost rest = { λ w. tt };
 
@@ -167,11 +168,13 @@ fn program(alloc: Global) -> Result<Program, AllocError>
 }
 
 fn loud_words<'a, R: Abort>(rt: &'a R, alloc: Global) -> Result<LoudWords<'a, R>, AllocError>
-    ensures { IfOk result (λ w. map base_in (map cell_of w.words.items) ≡ 1 ∷ 3 ∷ 22 ∷ 3 ∷ 2 ∷ 8 ∷ 4 ∷ 21 ∷ 3 ∷ 29 ∷ 2 ∷ 29 ∷ []) }
+    ensures bases { IfOk result (λ w. map base_in (map cell_of w.words.items) ≡ 1 ∷ 3 ∷ 22 ∷ 3 ∷ 2 ∷ 8 ∷ 4 ∷ 21 ∷ 3 ∷ 29 ∷ 2 ∷ 29 ∷ []) }
+    ensures attached { IfOk result (λ w. w.attached ≡ true) }
 {
     Ok(LoudWords {
         rt,
         words: Vec::from_slice(alloc, &WORDS)?,
+        attached: true,
         loads: 0,
     })
 }

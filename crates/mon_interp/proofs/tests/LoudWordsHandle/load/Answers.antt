@@ -22,16 +22,16 @@ at_most_three false false false = lit≤ tt
 loud : (c : Cell) (n m : ℕ) → m ≡ n - n % 256 + 128 → Allowed c (m % 256)
 loud c n m e = (3, lit≤ tt, at_most_three (ltb 0 (enabled_in c 0)) (ltb 0 (enabled_in c 1)) (ltb 0 (enabled_in c 2)), (parts n m e).3)
 
-abbrev told_of : List ℕ → Told
-told_of words = record { number = 0; first = record { global = 0; callbacks = []; cells = map cell_of words }; seen = []; own = []; attached = true; count = 0; polls = 0; polled = 0 }
+abbrev told_of : List ℕ → Bool → Told
+told_of words attached = record { number = 0; first = record { global = 0; callbacks = []; cells = map cell_of words }; seen = []; own = []; attached = attached; count = 0; polls = 0; polled = 0 }
 
-loads : (words : List ℕ) (l n m : ℕ) → l < length words → n ≡ get_or words l n → m ≡ n - n % 256 + 128 → Loads (told_of words) l m (told_of words)
-loads words l n m within is made =
-    let cell : cell_at (told_of words).first l ≡ cell_of n = get_or-map cell_of words l n no_cell within ∙ ap cell_of (sym is) in
-    let same : cell_of m ≡ cell_at (told_of words).first l = same_cell n m made ∙ sym cell in
-    record { begins = record { more = []; is = refl }; quiet = refl; own = refl; rest = refl; shows = (same, loud (cell_at (told_of words).first l) n m made); base = ap (λ (c : Cell). c.base) same }
+loads : (words : List ℕ) (attached : Bool) (l n m : ℕ) → l < length words → n ≡ get_or words l n → m ≡ n - n % 256 + 128 → Loads (told_of words attached) l m (told_of words attached)
+loads words attached l n m within is made =
+    let cell : cell_at (told_of words attached).first l ≡ cell_of n = get_or-map cell_of words l n no_cell within ∙ ap cell_of (sym is) in
+    let same : cell_of m ≡ cell_at (told_of words attached).first l = same_cell n m made ∙ sym cell in
+    record { begins = record { more = []; is = refl }; quiet = refl; own = refl; rest = refl; shows = (same, loud (cell_at (told_of words attached).first l) n m made); base = ap (λ (c : Cell). c.base) same }
 
 pub returns-clause-told : goal.returns-clause-told
 returns-clause-told g c =
     let words : List ℕ = c.args.self.now.words.items in
-    loads words c.args.location c.index-word.result.now _ (omega (arith, length-map words cell_of, c.requires.within)) c.index-word.ensures (omega arith)
+    loads words c.args.self.now.attached c.args.location c.index-word.result.now _ (omega (arith, length-map words cell_of, c.requires.within)) c.index-word.ensures (omega arith)
