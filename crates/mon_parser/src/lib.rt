@@ -1,0 +1,21 @@
+//! The trees of a program's text, from its tokens.
+#![tactic(auto)]
+
+mod block;
+mod constant;
+mod cursor;
+mod expression;
+mod grown;
+mod item;
+mod laws;
+mod levels;
+mod parser;
+mod refusal;
+mod statement;
+pub mod tree;
+
+pub use laws::expression_derives_once;
+pub use parser::{SyntaxFault, parse};
+
+#[cfg(test)]
+mod tests;
