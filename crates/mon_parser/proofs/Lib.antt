@@ -2,6 +2,7 @@ pub mod Atoms
 pub mod Begins
 pub mod Compare
 pub mod Compared
+pub mod ConstantSounds
 pub mod Constants
 pub mod Depths
 pub mod Grouping
@@ -13,6 +14,7 @@ pub mod Names
 pub mod Postfix
 pub mod Prefix
 pub mod Prefixes
+pub mod Signs
 pub mod Soundness
 pub mod Sounds
 pub mod StatementDepths
