@@ -5,6 +5,7 @@ pub mod Compared
 pub mod ConstantSounds
 pub mod Constants
 pub mod Depths
+pub mod Firsts
 pub mod Grouping
 pub mod Items
 pub mod Knot
@@ -15,6 +16,7 @@ pub mod Postfix
 pub mod Prefix
 pub mod Prefixes
 pub mod Signs
+pub mod Simples
 pub mod Soundness
 pub mod Sounds
 pub mod StatementDepths

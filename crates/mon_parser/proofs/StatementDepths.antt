@@ -5,6 +5,7 @@ use Rattle.mon_parser.specs.declared.tree.Expression.{Expression}
 use Rattle.mon_parser.specs.declared.tree.Targets.{Targets}
 use Rattle.mon_parser.specs.declared.tree.Simple.{Simple}
 use Rattle.mon_parser.specs.declared.tree.Statement.{Statement}
+use Rattle.mon_parser.specs.declared.tree.Statement as stmt
 use Rattle.mon_parser.specs.declared.tree.Statement.TheOpen.{Statement-F, Handler-F}
 use Rattle.mon_parser.specs.declared.tree.Statement.TheFolds.{fold-roll-Statement, fold-roll-Handler}
 use Rattle.mon_parser.specs.declared.tree.Statement.TheViews as compound
@@ -15,7 +16,10 @@ use Rattle.mon_parser.specs.declared.tree.Constant.TheFolds.{fold-roll-Constant}
 use Rattle.mon_parser.specs.declared.tree.Constant.TheViews as consts
 use Rattle.mon_parser.specs.Grammar.{handler}
 use Rattle.mon_parser.proofs.Prefixes.{depth_some}
-use Rattle.mon_parser.specs.Depth.{expr_depth, targets_depth, stmt_depth, stmt_depth_step, handler_depth, handler_depth_step, const_depth, const_depth_step, most}
+use Rattle.mon_parser.specs.Depth.{expr_depth, targets_depth, simple_depth, stmt_depth, stmt_depth_step, handler_depth, handler_depth_step, const_depth, const_depth_step, most}
+
+pub depth_line : (l : ℕ) (s : Simple) → stmt_depth (stmt.Simple l s) ≡ simple_depth s
+depth_line l s = ap stmt_depth (sym (compound.rolls-Simple l s)) ∙ fold-roll-Statement ℕ ℕ stmt_depth_step handler_depth_step (Statement-F.Simple l s)
 
 pub depth_branch : (l : ℕ) (test : Expression) (body other : List Statement) → stmt_depth (compound.If l test body other) ≡ 1 + max (expr_depth test) (max (most (map stmt_depth body)) (most (map stmt_depth other)))
 depth_branch l test body other = ap stmt_depth (sym (compound.rolls-If l test body other)) ∙ fold-roll-Statement ℕ ℕ stmt_depth_step handler_depth_step (Statement-F.If l test body other)
