@@ -1,5 +1,6 @@
 pub mod Atoms
 pub mod Begins
+pub mod Blocks
 pub mod Compare
 pub mod Compared
 pub mod ConstantSounds

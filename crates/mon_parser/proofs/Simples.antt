@@ -95,7 +95,7 @@ simple_reads b n expr i r ts s0 (simple_rhs {e = e} d) w h m rest =
     right_here expr ts left (rhs_words d)
     ∙ ap (λ (g : Answer Expression). then_read g (again expr (ts ++ left))) (rhs_reads b n expr i r ts e d w (omega arith) left (omega arith))
 
-simple_some : (s : Simple) → 0 < simple_depth s
+pub simple_some : (s : Simple) → 0 < simple_depth s
 simple_some simple.Pass = omega arith
 simple_some simple.Break = omega arith
 simple_some simple.Continue = omega arith
