@@ -17,6 +17,7 @@ pub mod Postfix
 pub mod Prefix
 pub mod Prefixes
 pub mod Signs
+pub mod SimpleSounds
 pub mod Simples
 pub mod Soundness
 pub mod Sounds
