@@ -219,7 +219,7 @@ handlers_read b n expr block r rb (handlers_bare (bare_block {ts = ts} {body = b
     let deep = depth_bare l body in
     rw (rb ts body d (omega arith) (omega arith) rest) refl
 
-handlers_some : {ts : List Token} {hs : List Handler} → IsHandlers ts hs → is_none hs ≡ false
+pub handlers_some : {ts : List Token} {hs : List Handler} → IsHandlers ts hs → is_none hs ≡ false
 handlers_some (handlers_one d) = refl
 handlers_some (handlers_more d x) = refl
 handlers_some (handlers_bare d) = refl

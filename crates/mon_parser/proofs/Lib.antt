@@ -1,5 +1,6 @@
 pub mod Atoms
 pub mod Begins
+pub mod BlockSounds
 pub mod Blocks
 pub mod Compare
 pub mod Compared
@@ -22,5 +23,6 @@ pub mod Simples
 pub mod Soundness
 pub mod Sounds
 pub mod StatementDepths
+pub mod StatementSounds
 pub mod Steps
 pub mod Tuples

@@ -44,7 +44,7 @@ sign_kind sign.Finally = kind.Keyword word.Finally
 sign_kind sign.Elif = kind.Keyword word.Elif
 sign_kind sign.Def = kind.Keyword word.Def
 
-sign_is : (s : Sign) (k : Kind) (x : ⊤) → mark_at s k ≡ Some x → k ≡ sign_kind s
+pub sign_is : (s : Sign) (k : Kind) (x : ⊤) → mark_at s k ≡ Some x → k ≡ sign_kind s
 sign_is sign.OpenRound (kind.Operator operator.OpenRound) x e = refl
 sign_is sign.CloseRound (kind.Operator operator.CloseRound) x e = refl
 sign_is sign.CloseSquare (kind.Operator operator.CloseSquare) x e = refl
