@@ -25,4 +25,5 @@ pub mod Sounds
 pub mod StatementDepths
 pub mod StatementSounds
 pub mod Steps
+pub mod Trees
 pub mod Tuples
