@@ -13,6 +13,7 @@ pub mod Items
 pub mod Knot
 pub mod Left
 pub mod Lists
+pub mod Modules
 pub mod Names
 pub mod Postfix
 pub mod Prefix

@@ -1,8 +1,18 @@
 //! Laws of the grammar, as contracts of functions that do nothing.
 
-ghost use Rattle.mon_parser.specs.Laws.{ExpressionOnce};
+ghost use Rattle.mon_parser.specs.Laws.{ExpressionOnce, ItemOnce, ParsedOnce};
 
 /// Tokens derive from the symbol of expressions with at most one tree within the limit on nodes.
 pub fn expression_derives_once()
     ensures { ExpressionOnce }
+{}
+
+/// Tokens derive from the symbol of items with at most one tree.
+pub fn item_derives_once()
+    ensures { ItemOnce }
+{}
+
+/// A text's items determine the trees or the fault that they are parsed as, unless memory runs out.
+pub fn items_parse_once()
+    ensures { ParsedOnce }
 {}
