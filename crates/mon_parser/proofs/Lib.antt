@@ -15,6 +15,7 @@ pub mod Left
 pub mod Lists
 pub mod Modules
 pub mod Names
+pub mod Nested
 pub mod Postfix
 pub mod Prefix
 pub mod Prefixes

@@ -1,8 +1,10 @@
 pub mod Tokens
 pub mod Depth
 pub mod Grammar
+pub mod Nesting
 pub mod Derives
 pub mod Reader
 pub mod Statements
 pub mod Code
+pub mod ConstantCode
 pub mod Laws

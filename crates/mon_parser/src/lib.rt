@@ -14,7 +14,7 @@ mod refusal;
 mod statement;
 pub mod tree;
 
-pub use laws::{expression_derives_once, item_derives_once, items_parse_once};
+pub use laws::{expression_derives_once, item_derives_once, item_keeps_limits, items_parse_once};
 pub use parser::{SyntaxFault, parse};
 
 #[cfg(test)]
