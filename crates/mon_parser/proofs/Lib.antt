@@ -5,10 +5,12 @@ pub mod Blocks
 pub mod Compare
 pub mod Compared
 pub mod ConstantSounds
+pub mod ConstantSteps
 pub mod Constants
 pub mod Depths
 pub mod Firsts
 pub mod Grouping
+pub mod ItemSteps
 pub mod Items
 pub mod Knot
 pub mod Left
@@ -19,6 +21,7 @@ pub mod Nested
 pub mod Postfix
 pub mod Prefix
 pub mod Prefixes
+pub mod Results
 pub mod Signs
 pub mod SimpleSounds
 pub mod Simples

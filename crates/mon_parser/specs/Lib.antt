@@ -6,5 +6,5 @@ pub mod Derives
 pub mod Reader
 pub mod Statements
 pub mod Code
-pub mod ConstantCode
+pub mod ItemReadings
 pub mod Laws

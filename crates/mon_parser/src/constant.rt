@@ -1,9 +1,9 @@
 //! The constants of a module, by recursive descent.
 
 ghost use Rattle.std.specs.Prelude.{length};
-ghost use Rattle.mon_parser.specs.Code.{Gives, with_front};
-ghost use Rattle.mon_parser.specs.Reader.{more_items};
-ghost use Rattle.mon_parser.specs.Statements.{read_constants, read_constant, starts_constant};
+ghost use Rattle.mon_parser.specs.Code.{Gives};
+ghost use Rattle.mon_parser.specs.ItemReadings.{at_constants, further_from};
+ghost use Rattle.mon_parser.specs.Statements.{read_constant};
 
 use crate::block::{ConstantParts, GrownConstant};
 use crate::cursor::{Cursor, Sign};
@@ -19,7 +19,7 @@ pub fn constants(
     brackets: usize,
     cursor: &mut Cursor,
 ) -> Result<GrownConstant, Refusal>
-    ensures { Gives (read_constants (read_constant brackets) cursor.old) result cursor.new }
+    ensures { Gives (at_constants brackets cursor.old) result cursor.new }
 {
     let first = constant(alloc, brackets, cursor)?;
     if !cursor.is_comma() {
@@ -38,11 +38,14 @@ fn further_constants(
     brackets: usize,
     cursor: &mut Cursor,
 ) -> Result<ConstantParts, Refusal>
-    ensures { Gives (with_front parts (more_items starts_constant (read_constant brackets) (length cursor.old) cursor.old)) result cursor.new }
+    ensures { Gives (further_from brackets parts (length cursor.old) cursor.old) result cursor.new }
 {
     let turns = cursor.len();
     for _turn in 0..turns {
-        if !cursor.take(Sign::Comma) || !cursor.starts_constant() {
+        if !cursor.take(Sign::Comma) {
+            return Ok(parts);
+        }
+        if !cursor.starts_constant() {
             return Ok(parts);
         }
         let part = constant(alloc, brackets, cursor)?;
