@@ -1,31 +1,24 @@
 -- What is read as a statement or a block derives.
-use Rattle.std.proofs.Common.{◌≡◌, ℕ, zero, suc, ◌+◌, List, [], ◌∷◌, ◌++◌, length, refl, sym, ap, ◌∙◌, append_assoc, append-nil, subst}
-use Rattle.std.specs.Prelude.{Option, Some, None, ⊤, Bool, true, false}
+use Rattle.std.proofs.Common.{◌≡◌, ℕ, zero, suc, List, [], ◌∷◌, ◌++◌, length, sym, ap, ◌∙◌, append_assoc, subst}
+use Rattle.std.specs.Prelude.{Some}
 use Rattle.mon_lexer.specs.declared.token.Token.{Token}
-use Rattle.mon_lexer.specs.declared.token.Kind.{Kind}
 use Rattle.mon_lexer.specs.declared.token.Kind.TheVariants as kind
 use Rattle.mon_lexer.specs.declared.token.Operator.TheVariants as operator
 use Rattle.mon_lexer.specs.declared.token.Keyword.TheVariants as word
 use Rattle.mon_parser.specs.declared.cursor.Sign.TheVariants as sign
 use Rattle.mon_parser.specs.declared.tree.Expression.{Expression}
-use Rattle.mon_parser.specs.declared.tree.Targets.{Targets}
 use Rattle.mon_parser.specs.declared.tree.Statement.{Statement}
-use Rattle.mon_parser.specs.declared.tree.Statement as stmt
 use Rattle.mon_parser.specs.declared.tree.Statement.TheViews as compound
-use Rattle.mon_parser.specs.declared.tree.Handler.{Handler}
-use Rattle.mon_parser.specs.Tokens.{mark, key, symbol, name, first_line}
+use Rattle.mon_parser.specs.Tokens.{mark, key, symbol, first_line}
 use Rattle.mon_parser.specs.Depth.{stmt_depth}
-use Rattle.mon_parser.specs.Reader.{Answer, Reader, then_read, choose, pick, next_at, mark_at, name_at, within, read_tuple}
-use Rattle.mon_parser.specs.Statements.{read_targets, read_line, read_statements, read_block, read_body, read_else, read_if, read_while, read_for, read_as, read_handlers, is_none, read_last, read_try, read_statement, block_at}
-use Rattle.mon_parser.specs.Grammar.{handler, IsExpr, IsTuple, IsTargets, IsSimple, IsBlock, block_simple, block_stmts, IsStmts, stmts_one, stmts_more, IsStmt, stmt_simple, stmt_if, stmt_while, stmt_for, stmt_try, stmt_try_both, stmt_try_finally, IsElse, else_none, else_block, else_elif, IsFinally, finally_block, IsHandlers, handlers_one, handlers_more, handlers_bare, IsExcept, except_plain, except_as, IsBare, bare_block}
-use Rattle.mon_parser.proofs.Left.{Sound, Derived, some_pair, then_was}
-use Rattle.mon_parser.proofs.Compared.{took, Chose, chose_other, chose_some, chose}
+use Rattle.mon_parser.specs.Reader.{Reader}
+use Rattle.mon_parser.specs.Statements.{read_statements, read_block, read_body, read_else, read_if}
+use Rattle.mon_parser.specs.Grammar.{IsExpr, IsBlock, block_simple, block_stmts, IsStmts, stmts_one, stmts_more, IsStmt, IsElse, else_none, else_block, else_elif}
+use Rattle.mon_parser.proofs.Left.{Sound, some_pair, then_was}
+use Rattle.mon_parser.proofs.Compared.{chose_other, chose_some, chose}
 use Rattle.mon_parser.proofs.Items.{DerivedAs}
-use Rattle.mon_parser.proofs.Sounds.{Picked, picked_true, picked_false, picked, tuple_derives, name_is}
-use Rattle.mon_parser.proofs.Names.{targets_derive}
-use Rattle.mon_parser.proofs.Soundness.{SoundExpr}
 use Rattle.mon_parser.proofs.Signs.{sign_comes, behind, behind_token, within_is}
-use Rattle.mon_parser.proofs.SimpleSounds.{Lined, line_sound}
+use Rattle.mon_parser.proofs.SimpleSounds.{Lined}
 
 abbrev pub SoundAs : {A : Type 0} → (List Token → A → Type 0) → Reader A → Type 0
 SoundAs {A} Is read = (ts : List Token) (a : A) (rest : List Token) → read ts ≡ Some (a, rest) → DerivedAs Is ts a rest
@@ -40,34 +33,34 @@ stmts_sound statement so (suc turns) ts ss rest e =
     let a = then_was _ _ _ e in
     let x = so ts a.value a.rest a.first in
     elim (chose _ _ _ _ a.last) [
-      chose_some is end first h ↦
-        let k = sign_comes sign.Dedent a.rest is end first in
-        let p = some_pair (a.value ∷ []) ss end rest h in
-        (x.0, k.0, x.1 ∙ ap (λ r. x.0 ++ r) (k.1 ∙ ap (λ r. mark kind.Dedent k.0 ∷ r) p.1), subst (λ z. IsStmts x.0 z) p.0 (stmts_one x.2))
-    | chose_other none h ↦
-        let b = then_was _ _ _ h in
-        let p = some_pair (a.value ∷ b.value) ss b.rest rest b.last in
-        let y = stmts_sound statement so turns a.rest b.value b.rest b.first in
-        (x.0 ++ y.0, y.1, behind x.0 y.0 (mark kind.Dedent y.1 ∷ rest) x.1 (y.2 ∙ ap (λ r. y.0 ++ mark kind.Dedent y.1 ∷ r) p.1), subst (λ z. IsStmts (x.0 ++ y.0) z) p.0 (stmts_more x.2 y.3))
+      | chose_some is end first h ↦
+          let k = sign_comes sign.Dedent a.rest is end first in
+          let p = some_pair (a.value ∷ []) ss end rest h in
+          (x.0, k.0, x.1 ∙ ap (λ r. x.0 ++ r) (k.1 ∙ ap (λ r. mark kind.Dedent k.0 ∷ r) p.1), subst (λ z. IsStmts x.0 z) p.0 (stmts_one x.2))
+      | chose_other none h ↦
+          let b = then_was _ _ _ h in
+          let p = some_pair (a.value ∷ b.value) ss b.rest rest b.last in
+          let y = stmts_sound statement so turns a.rest b.value b.rest b.first in
+          (x.0 ++ y.0, y.1, behind x.0 y.0 (mark kind.Dedent y.1 ∷ rest) x.1 (y.2 ∙ ap (λ r. y.0 ++ mark kind.Dedent y.1 ∷ r) p.1), subst (λ z. IsStmts (x.0 ++ y.0) z) p.0 (stmts_more x.2 y.3))
     ]
 
 pub block_sound : (line statement : Reader Statement) → SoundLine line → SoundAs IsStmt statement → SoundAs IsBlock (read_block line statement)
 block_sound line statement sl so ts ss rest e =
     elim (chose _ _ _ _ e) [
-      chose_other none h ↦
-        let a = then_was _ _ _ h in
-        let p = some_pair (a.value ∷ []) ss a.rest rest a.last in
-        let x = sl ts a.value a.rest a.first in
-        let us : List Token = x.front ++ mark kind.Newline x.line ∷ [] in
-        (us, x.tokens ∙ ap (λ r. us ++ r) p.1, subst (λ z. IsBlock us z) (ap (λ s. s ∷ []) x.tree ∙ p.0) (block_simple x.line x.derivation))
-    | chose_some is left first h ↦
-        let k = sign_comes sign.Newline ts is left first in
-        let a = then_was _ _ _ h in
-        let j = sign_comes sign.Indent left a.value a.rest a.first in
-        let x = stmts_sound statement so (length a.rest) a.rest ss rest a.last in
-        let us : List Token = x.0 ++ mark kind.Dedent x.1 ∷ [] in
-        let inner : List Token = mark kind.Indent j.0 ∷ us in
-        (mark kind.Newline k.0 ∷ inner, behind_token (mark kind.Newline k.0) inner rest k.1 (behind_token (mark kind.Indent j.0) us rest j.1 (x.2 ∙ sym (append_assoc x.0 (mark kind.Dedent x.1 ∷ []) rest))), block_stmts k.0 j.0 x.1 x.3)
+      | chose_other none h ↦
+          let a = then_was _ _ _ h in
+          let p = some_pair (a.value ∷ []) ss a.rest rest a.last in
+          let x = sl ts a.value a.rest a.first in
+          let us : List Token = x.front ++ mark kind.Newline x.line ∷ [] in
+          (us, x.tokens ∙ ap (λ r. us ++ r) p.1, subst (λ z. IsBlock us z) (ap (λ s. s ∷ []) x.tree ∙ p.0) (block_simple x.line x.derivation))
+      | chose_some is left first h ↦
+          let k = sign_comes sign.Newline ts is left first in
+          let a = then_was _ _ _ h in
+          let j = sign_comes sign.Indent left a.value a.rest a.first in
+          let x = stmts_sound statement so (length a.rest) a.rest ss rest a.last in
+          let us : List Token = x.0 ++ mark kind.Dedent x.1 ∷ [] in
+          let inner : List Token = mark kind.Indent j.0 ∷ us in
+          (mark kind.Newline k.0 ∷ inner, behind_token (mark kind.Newline k.0) inner rest k.1 (behind_token (mark kind.Indent j.0) us rest j.1 (x.2 ∙ sym (append_assoc x.0 (mark kind.Dedent x.1 ∷ []) rest))), block_stmts k.0 j.0 x.1 x.3)
     ]
 
 -- a block behind a colon
@@ -105,21 +98,21 @@ SoundBranch branch = (l : ℕ) (ts : List Token) (s : Statement) (rest : List To
 else_sound : (block : Reader (List Statement)) (branch : ℕ → Reader Statement) → SoundAs IsBlock block → SoundBranch branch → SoundAs IsElse (read_else block branch)
 else_sound block branch so sb ts ss rest e =
     elim (chose _ _ _ _ e) [
-      chose_some is left first h ↦
-        let k = sign_comes sign.Elif ts is left first in
-        let a = then_was _ _ _ h in
-        let p = some_pair (a.value ∷ []) ss a.rest rest a.last in
-        let line : first_line ts ≡ k.0 = ap first_line k.1 in
-        let x = sb k.0 left a.value a.rest (subst (λ l. branch l left ≡ Some (a.value, a.rest)) line a.first) in
-        let us : List Token = x.tests ++ symbol operator.Colon x.colon ∷ (x.blocks ++ x.others) in
-        (key word.Elif k.0 ∷ us, behind_token (key word.Elif k.0) us rest k.1 (x.tokens ∙ ap (λ r. us ++ r) p.1), subst (λ z. IsElse (key word.Elif k.0 ∷ us) z) (ap (λ s. s ∷ []) x.tree ∙ p.0) (else_elif k.0 x.colon x.is_test x.is_body x.is_else))
-    | chose_other none h ↦ elim (chose _ _ _ _ h) [
-        chose_some is left first i ↦
-          let k = sign_comes sign.Else ts is left first in
-          let x = body_sound block so left ss rest i in
-          let us : List Token = symbol operator.Colon x.line ∷ x.inner in
-          (key word.Else k.0 ∷ us, behind_token (key word.Else k.0) us rest k.1 x.tokens, else_block k.0 x.line x.derivation)
-      | chose_other none i ↦ let p = some_pair [] ss ts rest i in ([], p.1, subst (λ z. IsElse [] z) p.0 else_none)
+      | chose_some is left first h ↦
+          let k = sign_comes sign.Elif ts is left first in
+          let a = then_was _ _ _ h in
+          let p = some_pair (a.value ∷ []) ss a.rest rest a.last in
+          let line : first_line ts ≡ k.0 = ap first_line k.1 in
+          let x = sb k.0 left a.value a.rest (subst (λ l. branch l left ≡ Some (a.value, a.rest)) line a.first) in
+          let us : List Token = x.tests ++ symbol operator.Colon x.colon ∷ (x.blocks ++ x.others) in
+          (key word.Elif k.0 ∷ us, behind_token (key word.Elif k.0) us rest k.1 (x.tokens ∙ ap (λ r. us ++ r) p.1), subst (λ z. IsElse (key word.Elif k.0 ∷ us) z) (ap (λ s. s ∷ []) x.tree ∙ p.0) (else_elif k.0 x.colon x.is_test x.is_body x.is_else))
+      | chose_other none h ↦ elim (chose _ _ _ _ h) [
+        | chose_some is left first i ↦
+            let k = sign_comes sign.Else ts is left first in
+            let x = body_sound block so left ss rest i in
+            let us : List Token = symbol operator.Colon x.line ∷ x.inner in
+            (key word.Else k.0 ∷ us, behind_token (key word.Else k.0) us rest k.1 x.tokens, else_block k.0 x.line x.derivation)
+        | chose_other none i ↦ let p = some_pair [] ss ts rest i in ([], p.1, subst (λ z. IsElse [] z) p.0 else_none)
       ]
     ]
 
@@ -134,7 +127,16 @@ if_sound expr block branch se so sb l ts s rest e =
     let z = else_sound block branch so sb b.rest c.value c.rest c.first in
     let us : List Token = y.inner ++ z.0 in
     record {
-      tests = x.0; blocks = y.inner; others = z.0; colon = y.line; test = a.value; body = b.value; orelse = c.value;
+      tests = x.0;
+      blocks = y.inner;
+      others = z.0;
+      colon = y.line;
+      test = a.value;
+      body = b.value;
+      orelse = c.value;
       tokens = behind x.0 (symbol operator.Colon y.line ∷ us) rest x.1 (behind (symbol operator.Colon y.line ∷ y.inner) z.0 rest y.tokens (z.1 ∙ ap (λ r. z.0 ++ r) m.1));
-      tree = m.0; is_test = x.2; is_body = y.derivation; is_else = z.2;
+      tree = m.0;
+      is_test = x.2;
+      is_body = y.derivation;
+      is_else = z.2;
     }

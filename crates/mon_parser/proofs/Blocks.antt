@@ -1,6 +1,6 @@
 -- Statements and blocks are read, whatever follows them that is no clause of theirs.
-use Rattle.std.proofs.Common.{◌≡◌, ℕ, zero, suc, ◌+◌, ◌<◌, ◌≤◌, max, List, [], ◌∷◌, ◌++◌, length, map, refl, sym, ap, ◌∙◌, arith, append_assoc, length-append}
-use Rattle.std.specs.Prelude.{Option, Some, None, ⊤, Bool, true, false}
+use Rattle.std.proofs.Common.{◌≡◌, ℕ, zero, suc, ◌<◌, ◌≤◌, List, [], ◌∷◌, ◌++◌, length, map, refl, ap, ◌∙◌, arith, append_assoc, length-append}
+use Rattle.std.specs.Prelude.{Option, Some, None, ⊤, false}
 use Rattle.mon_lexer.specs.declared.token.Token.{Token}
 use Rattle.mon_lexer.specs.declared.token.Kind.{Kind}
 use Rattle.mon_lexer.specs.declared.token.Kind.TheVariants as kind
@@ -9,18 +9,17 @@ use Rattle.mon_lexer.specs.declared.token.Keyword.TheVariants as word
 use Rattle.mon_parser.specs.declared.cursor.Sign.TheVariants as sign
 use Rattle.mon_parser.specs.declared.tree.Single.{Single}
 use Rattle.mon_parser.specs.declared.tree.Expression.{Expression}
-use Rattle.mon_parser.specs.declared.tree.Targets.{Targets}
 use Rattle.mon_parser.specs.declared.tree.Simple.{Simple}
 use Rattle.mon_parser.specs.declared.tree.Statement.{Statement}
 use Rattle.mon_parser.specs.declared.tree.Statement as stmt
 use Rattle.mon_parser.specs.declared.tree.Statement.TheViews as compound
 use Rattle.mon_parser.specs.declared.tree.Handler.{Handler}
 use Rattle.mon_parser.specs.Tokens.{mark, key, symbol, name, single_of, first_line}
-use Rattle.mon_parser.specs.Depth.{expr_depth, targets_depth, simple_depth, stmt_depth, handler_depth, most}
-use Rattle.mon_parser.specs.Reader.{Answer, Reader, then_read, choose, pick, next_at, mark_at, name_at, binds, within, read_tuple}
-use Rattle.mon_parser.specs.Statements.{starts_name, read_targets, read_line, read_statements, read_block, read_body, read_else, read_if, read_while, read_for, read_as, read_handlers, is_none, read_last, read_try, read_statement, block_at}
-use Rattle.mon_parser.specs.Grammar.{handler, IsExpr, IsTuple, IsTargets, IsSimple, IsBlock, block_simple, block_stmts, IsStmts, stmts_one, stmts_more, IsStmt, stmt_simple, stmt_if, stmt_while, stmt_for, stmt_try, stmt_try_both, stmt_try_finally, IsElse, else_none, else_block, else_elif, IsFinally, finally_block, IsHandlers, handlers_one, handlers_more, handlers_bare, IsExcept, except_plain, except_as, IsBare, bare_block}
-use Rattle.mon_parser.proofs.Left.{Reads, Stops}
+use Rattle.mon_parser.specs.Depth.{simple_depth, stmt_depth, handler_depth, most}
+use Rattle.mon_parser.specs.Reader.{Reader, then_read, choose, pick, next_at, mark_at}
+use Rattle.mon_parser.specs.Statements.{starts_name, read_line, read_statements, read_block, read_else, read_if, read_while, read_for, read_handlers, is_none, read_try, read_statement, block_at}
+use Rattle.mon_parser.specs.Grammar.{IsExpr, IsSimple, IsBlock, block_simple, block_stmts, IsStmts, stmts_one, stmts_more, IsStmt, stmt_simple, stmt_if, stmt_while, stmt_for, stmt_try, stmt_try_both, stmt_try_finally, IsElse, else_none, else_block, else_elif, finally_block, IsHandlers, handlers_one, handlers_more, handlers_bare, IsExcept, except_plain, except_as, bare_block}
+use Rattle.mon_parser.proofs.Left.{Reads}
 use Rattle.mon_parser.proofs.Prefix.{Begins}
 use Rattle.mon_parser.proofs.Prefixes.{begins_more}
 use Rattle.mon_parser.proofs.Items.{Ends}

@@ -1,12 +1,9 @@
 -- What is read as constants derives.
-use Rattle.std.proofs.Common.{◌≡◌, ℕ, zero, suc, ◌+◌, List, [], ◌∷◌, ◌++◌, length, refl, sym, ap, ◌∙◌, append_assoc, append-nil, subst}
-use Rattle.std.specs.Prelude.{Option, Some, None, ⊤, Bool, true, false, ℤ, pos, neg_ℤ}
+use Rattle.std.proofs.Common.{◌≡◌, ℕ, zero, suc, List, [], ◌∷◌, ◌++◌, length, refl, sym, ap, ◌∙◌, append_assoc, append-nil, subst}
+use Rattle.std.specs.Prelude.{Some, ⊤, neg_ℤ}
 use Rattle.mon_lexer.specs.declared.token.Token.{Token}
-use Rattle.mon_lexer.specs.declared.token.Kind.{Kind}
-use Rattle.mon_lexer.specs.declared.token.Kind.TheVariants as kind
 use Rattle.mon_lexer.specs.declared.token.Operator.TheVariants as operator
 use Rattle.mon_parser.specs.declared.cursor.Sign.TheVariants as sign
-use Rattle.mon_parser.specs.declared.tree.Single.{Single}
 use Rattle.mon_parser.specs.declared.tree.Constant.{Constant}
 use Rattle.mon_parser.specs.declared.tree.Constant as const
 use Rattle.mon_parser.specs.declared.tree.Constant.TheViews as consts
@@ -14,7 +11,7 @@ use Rattle.mon_parser.specs.Tokens.{mark, symbol, int, text, single_of}
 use Rattle.mon_parser.specs.Depth.{const_depth}
 use Rattle.mon_parser.specs.Reader.{Answer, Reader, then_read, choose, pick, next_at, mark_at, within, text_at, number_at, is_comma, more_items, more_texts}
 use Rattle.mon_parser.specs.Statements.{starts_constant, read_constants, read_constant}
-use Rattle.mon_parser.specs.Grammar.{IsTexts, IsSingle, single_word, IsConsts, consts_one, consts_tuple, consts_comma, IsConstList, const_list_one, const_list_more, IsConst, const_int, const_negative, const_texts, const_single, const_empty, const_group}
+use Rattle.mon_parser.specs.Grammar.{single_word, IsConsts, consts_one, consts_tuple, consts_comma, IsConstList, const_list_one, const_list_more, IsConst, const_int, const_negative, const_texts, const_single, const_empty, const_group}
 use Rattle.mon_parser.proofs.Left.{some_pair, then_was}
 use Rattle.mon_parser.proofs.Compared.{took, Chose, chose_other, chose_some, chose}
 use Rattle.mon_parser.proofs.Items.{Tail, stop, trailing, next, DerivedAs, comma_sound}

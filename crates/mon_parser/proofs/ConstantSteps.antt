@@ -1,9 +1,8 @@
 -- Single steps of the readers of constants, as the code takes them.
-use Rattle.std.proofs.Common.{◌≡◌, ℕ, zero, suc, ◌+◌, ◌-◌, ◌<◌, ◌≤◌, List, [], ◌∷◌, ◌++◌, length, refl, sym, ap, ◌∙◌, arith, append-nil, to_z, of_z, w64, FitsSigned, ◌-ℤ◌, ◌≤ℤ◌}
-use Rattle.std.specs.Prelude.{Option, Some, None, Bool, true, false, ⊤, ℤ, pos, neg_ℤ}
-use Rattle.std.proofs.lemmas.Int.{to_z-of_z, ints}
+use Rattle.std.proofs.Common.{◌≡◌, ℕ, suc, ◌+◌, ◌-◌, ◌<◌, ◌≤◌, List, [], ◌∷◌, ◌++◌, length, refl, sym, ap, ◌∙◌, arith, to_z, of_z, w64, FitsSigned, ◌-ℤ◌, ◌≤ℤ◌}
+use Rattle.std.specs.Prelude.{Some, None, true, false, ⊤, ℤ, pos, neg_ℤ}
+use Rattle.std.proofs.lemmas.Int.{ints}
 use Rattle.mon_lexer.specs.declared.token.Token.{Token}
-use Rattle.mon_lexer.specs.declared.token.Kind.{Kind}
 use Rattle.mon_parser.specs.declared.cursor.Sign.TheVariants as sign
 use Rattle.mon_parser.specs.declared.tree.Single.{Single}
 use Rattle.mon_parser.specs.declared.tree.Constant.{Constant}

@@ -1,10 +1,9 @@
 -- With what a simple statement begins, and that targets are tuples of names.
-use Rattle.std.proofs.Common.{◌≡◌, ℕ, ◌+◌, ◌<◌, ◌≤◌, max, List, [], ◌∷◌, ◌++◌, length, map, refl, sym, ap, ◌∙◌, arith}
+use Rattle.std.proofs.Common.{◌≡◌, ℕ, ◌<◌, ◌≤◌, List, [], ◌∷◌, ◌++◌, length, map, refl, sym, ap, ◌∙◌, arith}
 use Rattle.std.specs.Prelude.{Option, Some, None, ⊤}
 use Rattle.mon_lexer.specs.declared.token.Token.{Token}
 use Rattle.mon_lexer.specs.declared.token.Kind.{Kind}
 use Rattle.mon_lexer.specs.declared.token.Kind.TheVariants as kind
-use Rattle.mon_lexer.specs.declared.token.Operator.TheVariants as operator
 use Rattle.mon_lexer.specs.declared.token.Keyword.TheVariants as word
 use Rattle.mon_parser.specs.declared.cursor.Sign.TheVariants as sign
 use Rattle.mon_parser.specs.declared.tree.Single.{Single}
@@ -15,7 +14,7 @@ use Rattle.mon_parser.specs.declared.tree.Expression.TheOpen.{Expression-F}
 use Rattle.mon_parser.specs.declared.tree.Expression.TheFolds.{fold-roll-Expression}
 use Rattle.mon_parser.specs.declared.tree.Targets.{Targets}
 use Rattle.mon_parser.specs.declared.tree.Simple.{Simple}
-use Rattle.mon_parser.specs.Tokens.{mark, name, single_of, first_line}
+use Rattle.mon_parser.specs.Tokens.{name, single_of, first_line}
 use Rattle.mon_parser.specs.Depth.{expr_depth, expr_depth_step, targets_depth, most}
 use Rattle.mon_parser.specs.Reader.{mark_at, next_at}
 use Rattle.mon_parser.specs.Grammar.{IsRhs, IsNames, names_one, names_more, IsTargets, targets_one, targets_tuple, targets_comma, IsTuple, tuple_one, tuple_tuple, tuple_comma, IsExprs, exprs_one, exprs_more, IsExpr, expr_or, or_one, and_one, not_compare, compare_sum, sum_one, term_one, unary_postfix, postfix_atom, atom_name, IsSimple, simple_pass, simple_break, simple_continue, simple_return, simple_return_value, simple_raise, simple_raise_value, simple_augmented, simple_assign, simple_rhs}

@@ -1,8 +1,7 @@
 -- Single steps of the reader of items, as the code takes them.
-use Rattle.std.proofs.Common.{◌≡◌, ℕ, ◌+◌, ◌-◌, ◌<◌, ◌≤◌, max, List, [], ◌∷◌, ◌++◌, length, map, refl, sym, ap, ◌∙◌, arith, subst}
-use Rattle.std.specs.Prelude.{Option, Some, None, ⊤, Result}
+use Rattle.std.proofs.Common.{◌≡◌, ℕ, ◌<◌, ◌≤◌, List, refl, sym, ap, ◌∙◌, arith, subst}
+use Rattle.std.specs.Prelude.{Some, None, ⊤, Result}
 use Rattle.mon_lexer.specs.declared.token.Token.{Token}
-use Rattle.mon_lexer.specs.declared.token.Kind.{Kind}
 use Rattle.mon_parser.specs.declared.cursor.Sign.TheVariants as sign
 use Rattle.mon_parser.specs.declared.refusal.Refusal.{Refusal}
 use Rattle.mon_parser.specs.declared.tree.Constant.{Constant}

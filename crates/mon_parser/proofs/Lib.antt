@@ -18,10 +18,12 @@ pub mod Lists
 pub mod Modules
 pub mod Names
 pub mod Nested
+pub mod Parsing
 pub mod Postfix
 pub mod Prefix
 pub mod Prefixes
 pub mod Results
+pub mod Scanning
 pub mod Signs
 pub mod SimpleSounds
 pub mod Simples

@@ -1,6 +1,6 @@
 -- The items of a module, and the first of them without a tree.
-use Rattle.std.proofs.Common.{◌≡◌, ℕ, ◌+◌, ◌<◌, ◌≤◌, List, [], ◌∷◌, ◌++◌, length, get_or, take, drop, refl, sym, ap, ◌∙◌, append_assoc, append-nil, subst}
-use Rattle.std.specs.Prelude.{Result, Ok, Err}
+use Rattle.std.proofs.Common.{◌≡◌, ℕ, ◌+◌, ◌<◌, ◌≤◌, List, [], ◌∷◌, ◌++◌, length, get_or, take, drop, refl, sym, ap, ◌∙◌, append_assoc, subst}
+use Rattle.std.specs.Prelude.{Result, Ok, Err, IsErrAnd}
 use Rattle.std.proofs.lemmas.List.{take_more, take_all, take-append-drop}
 use Rattle.mon_lexer.specs.declared.token.Token.{Token}
 use Rattle.mon_lexer.specs.declared.token.Item.{Item}
@@ -68,7 +68,14 @@ parsed_once items (Err (fault.Syntax l)) (Err (fault.Syntax k)) x y n m = ap (λ
 parsed_once items (Err (fault.Syntax l)) (Err fault.Memory) x y n m = absurd (m refl)
 parsed_once items (Err fault.Memory) other x y n m = absurd (n refl)
 
--- the loop over the items: one more, the first without a tree, and all
+-- the loop over the items: none yet, one more, the first without a tree, and all
+pub module_none : (items : List Item) (trees : List ModuleItem) → trees ≡ [] → DeriveAll (take 0 items) trees
+module_none items trees e = subst (λ z. DeriveAll (take 0 items) z) (sym e) (nothing items)
+  where
+    nothing : (items : List Item) → DeriveAll (take 0 items) []
+    nothing [] = tt
+    nothing (i ∷ items) = tt
+
 pub module_more : (items : List Item) (i : ℕ) (item : Item) (tokens : List Token) (trees new : List ModuleItem) (tree : ModuleItem) → i < length items → item ≡ get_or items i item → tokens ≡ item.tokens → DeriveAll (take i items) trees → Derives tokens tree → new ≡ trees ++ tree ∷ [] → DeriveAll (take (i + 1) items) new
 module_more items i item tokens trees new tree h e t all d n =
     let here : take (i + 1) items ≡ take i items ++ item ∷ [] = take_more items i item h ∙ ap (λ z. take i items ++ z ∷ []) (sym e) in
@@ -80,10 +87,20 @@ module_stops items i line item tokens trees h e t all none l =
     let here : take (i + 1) items ≡ take i items ++ item ∷ [] = take_more items i item h ∙ ap (λ z. take i items ++ z ∷ []) (sym e) in
     let split : items ≡ take i items ++ item ∷ drop (i + 1) items = sym (take-append-drop (i + 1) items) ∙ ap (λ z. z ++ drop (i + 1) items) here ∙ append_assoc (take i items) (item ∷ []) (drop (i + 1) items) in
     record {
-      before = take i items; item = item; after = drop (i + 1) items; place = split; trees = trees; derive = all;
+      before = take i items;
+      item = item;
+      after = drop (i + 1) items;
+      place = split;
+      trees = trees;
+      derive = all;
       none = subst (λ z. ¬ HasTree z) t none;
       begins = l ∙ ap first_line t;
     }
 
 pub module_ends : (items : List Item) (i : ℕ) (trees : List ModuleItem) → length items ≤ i → DeriveAll (take i items) trees → DeriveAll items trees
 module_ends items i trees h all = subst (λ z. DeriveAll z trees) (take_all i items h) all
+
+pub module_fails : (items : List Item) (result : Result Module SyntaxFault) → IsErrAnd result (λ e. e ≡ fault.Memory) → ParsedAs items result
+module_fails items (Ok found) h = absurd h
+module_fails items (Err (fault.Syntax line)) h = cc
+module_fails items (Err fault.Memory) h = tt

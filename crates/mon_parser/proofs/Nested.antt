@@ -1,6 +1,6 @@
 -- While the tokens of a derivation pass, as many more brackets are open as its nesting says, and after them none more.
 use Rattle.std.proofs.Common.{◌≡◌, ℕ, ◌+◌, ◌-◌, ◌≤◌, max, List, [], ◌∷◌, ◌++◌, refl, sym, ap, ◌∙◌, arith, append_assoc, append-nil, subst}
-use Rattle.std.specs.Prelude.{Option, Some, None}
+use Rattle.std.specs.Prelude.{Some}
 use Rattle.mon_lexer.specs.declared.token.Token.{Token}
 use Rattle.mon_lexer.specs.declared.token.Kind.{Kind}
 use Rattle.mon_lexer.specs.declared.token.Kind.TheVariants as kind
@@ -26,7 +26,7 @@ use Rattle.mon_parser.specs.Grammar.{IsTexts, texts_one, texts_more, IsNames, na
 record Nested (k : ℕ) (ts : List Token) : Type 0 where
   opens : (n : ℕ) (rest : List Token) → most_open n (ts ++ rest) ≡ max (n + k) (most_open n rest)
 
-n_most : (n : ℕ) (ts : List Token) → n ≤ most_open n ts
+pub n_most : (n : ℕ) (ts : List Token) → n ≤ most_open n ts
 n_most n [] = omega arith
 n_most n (t ∷ ts) = omega arith
 

@@ -1,28 +1,25 @@
 -- What is read as a simple statement derives.
-use Rattle.std.proofs.Common.{◌≡◌, ℕ, zero, suc, ◌+◌, List, [], ◌∷◌, ◌++◌, length, refl, sym, ap, ◌∙◌, append_assoc, append-nil, subst}
-use Rattle.std.specs.Prelude.{Option, Some, None, ⊤, Bool, true, false}
+use Rattle.std.proofs.Common.{◌≡◌, ℕ, zero, suc, List, [], ◌∷◌, ◌++◌, sym, ap, ◌∙◌, subst}
+use Rattle.std.specs.Prelude.{Option, Some, None}
 use Rattle.mon_lexer.specs.declared.token.Token.{Token}
-use Rattle.mon_lexer.specs.declared.token.Kind.{Kind}
 use Rattle.mon_lexer.specs.declared.token.Kind.TheVariants as kind
 use Rattle.mon_lexer.specs.declared.token.Operator.TheVariants as operator
 use Rattle.mon_lexer.specs.declared.token.Keyword.TheVariants as word
 use Rattle.mon_parser.specs.declared.cursor.Sign.TheVariants as sign
-use Rattle.mon_parser.specs.declared.tree.BinaryOperator.{BinaryOperator}
 use Rattle.mon_parser.specs.declared.tree.Expression.{Expression}
-use Rattle.mon_parser.specs.declared.tree.Targets.{Targets}
 use Rattle.mon_parser.specs.declared.tree.Simple.{Simple}
 use Rattle.mon_parser.specs.declared.tree.Simple.TheVariants as simple
 use Rattle.mon_parser.specs.declared.tree.Statement.{Statement}
 use Rattle.mon_parser.specs.declared.tree.Statement as stmt
 use Rattle.mon_parser.specs.Tokens.{mark, key, symbol, name, augmented_op, first_line}
 use Rattle.mon_parser.specs.Depth.{stmt_depth}
-use Rattle.mon_parser.specs.Reader.{Answer, Reader, then_read, choose, pick, next_at, mark_at, name_at, starts, within, read_tuple, read_rhs}
-use Rattle.mon_parser.specs.Statements.{read_targets, maybe, read_assignment, read_augmented, read_right, read_simple, read_line}
-use Rattle.mon_parser.specs.Grammar.{IsExpr, IsTuple, IsRhs, IsTargets, IsSimple, simple_pass, simple_break, simple_continue, simple_return, simple_return_value, simple_raise, simple_raise_value, simple_augmented, simple_assign, simple_rhs}
-use Rattle.mon_parser.proofs.Left.{Sound, Derived, some_pair, then_was}
-use Rattle.mon_parser.proofs.Compared.{took, Chose, chose_other, chose_some, chose}
+use Rattle.mon_parser.specs.Reader.{Answer, Reader, then_read, name_at, read_tuple}
+use Rattle.mon_parser.specs.Statements.{maybe, read_assignment, read_augmented, read_right, read_simple, read_line}
+use Rattle.mon_parser.specs.Grammar.{IsExpr, IsSimple, simple_pass, simple_break, simple_continue, simple_return, simple_return_value, simple_raise, simple_raise_value, simple_augmented, simple_assign, simple_rhs}
+use Rattle.mon_parser.proofs.Left.{Sound, some_pair, then_was}
+use Rattle.mon_parser.proofs.Compared.{took, chose_other, chose_some, chose}
 use Rattle.mon_parser.proofs.Items.{DerivedAs}
-use Rattle.mon_parser.proofs.Sounds.{Picked, picked_true, picked_false, picked, tuple_derives, rhs_derives, name_is}
+use Rattle.mon_parser.proofs.Sounds.{picked_true, picked_false, picked, tuple_derives, rhs_derives, name_is}
 use Rattle.mon_parser.proofs.Names.{targets_derive}
 use Rattle.mon_parser.proofs.Firsts.{outer, simple_begins, first_line_is}
 use Rattle.mon_parser.proofs.Signs.{sign_comes, behind, behind_token, within_is}
@@ -58,13 +55,13 @@ right_sound : (expr : Reader Expression) → Sound IsExpr expr → (ts : List To
 right_sound expr so ts s rest e =
     let a = then_was _ _ _ e in
     elim (chose _ _ _ _ a.last) [
-      chose_some op left first h ↦ augmented_sound expr so ts s rest h
-    | chose_other none h ↦ elim (chose _ _ _ _ h) [
-        chose_some is left first i ↦ assignment_sound expr so ts s rest i
-      | chose_other none i ↦
-          let p = some_pair (simple.Expression a.value) s a.rest rest i in
-          let x = rhs_derives expr so ts a.value a.rest a.first in
-          (x.0, x.1 ∙ ap (λ r. x.0 ++ r) p.1, subst (λ z. IsSimple x.0 z) p.0 (simple_rhs x.2))
+      | chose_some op left first h ↦ augmented_sound expr so ts s rest h
+      | chose_other none h ↦ elim (chose _ _ _ _ h) [
+        | chose_some is left first i ↦ assignment_sound expr so ts s rest i
+        | chose_other none i ↦
+            let p = some_pair (simple.Expression a.value) s a.rest rest i in
+            let x = rhs_derives expr so ts a.value a.rest a.first in
+            (x.0, x.1 ∙ ap (λ r. x.0 ++ r) p.1, subst (λ z. IsSimple x.0 z) p.0 (simple_rhs x.2))
       ]
     ]
 
@@ -72,12 +69,12 @@ right_sound expr so ts s rest e =
 maybe_sound : {Is : List Token → Expression → Type 0} (read : Reader Expression) → Sound Is read → (ts : List Token) (value : Option Expression) (rest : List Token) → maybe read ts ≡ Some (value, rest) → (Is2 : List Token → Option Expression → Type 0) → Is2 [] None → ((us : List Token) (e : Expression) → Is us e → Is2 us (Some e)) → DerivedAs Is2 ts value rest
 maybe_sound {Is} read so ts value rest h Is2 none some =
     elim (picked _ _ _ _ h) [
-      picked_false c i ↦ let p = some_pair None value ts rest i in ([], p.1, subst (λ z. Is2 [] z) p.0 none)
-    | picked_true c i ↦
-        let a = then_was _ _ _ i in
-        let p = some_pair (Some a.value) value a.rest rest a.last in
-        let x = so ts a.value a.rest a.first in
-        (x.0, x.1 ∙ ap (λ r. x.0 ++ r) p.1, subst (λ z. Is2 x.0 z) p.0 (some x.0 a.value x.2))
+      | picked_false c i ↦ let p = some_pair None value ts rest i in ([], p.1, subst (λ z. Is2 [] z) p.0 none)
+      | picked_true c i ↦
+          let a = then_was _ _ _ i in
+          let p = some_pair (Some a.value) value a.rest rest a.last in
+          let x = so ts a.value a.rest a.first in
+          (x.0, x.1 ∙ ap (λ r. x.0 ++ r) p.1, subst (λ z. Is2 x.0 z) p.0 (some x.0 a.value x.2))
     ]
 
 word_sound : (k : Token) (s made : Simple) (ts left rest : List Token) → ts ≡ k ∷ left → ◌≡◌ {A = Answer Simple} (Some (made, left)) (Some (s, rest)) → IsSimple (k ∷ []) made → DerivedAs IsSimple ts s rest
@@ -100,17 +97,21 @@ raise_sound expr so l ts left s rest f e =
 pub simple_sound : (expr : Reader Expression) → Sound IsExpr expr → (ts : List Token) (s : Simple) (rest : List Token) → read_simple expr ts ≡ Some (s, rest) → DerivedAs IsSimple ts s rest
 simple_sound expr so ts s rest e =
     elim (chose _ _ _ _ e) [
-      chose_some is left first h ↦ let k = sign_comes sign.Pass ts is left first in word_sound (key word.Pass k.0) s simple.Pass ts left rest k.1 h (simple_pass k.0)
-    | chose_other none e ↦ elim (chose _ _ _ _ e) [
-      chose_some is left first h ↦ let k = sign_comes sign.Break ts is left first in word_sound (key word.Break k.0) s simple.Break ts left rest k.1 h (simple_break k.0)
-    | chose_other none e ↦ elim (chose _ _ _ _ e) [
-      chose_some is left first h ↦ let k = sign_comes sign.Continue ts is left first in word_sound (key word.Continue k.0) s simple.Continue ts left rest k.1 h (simple_continue k.0)
-    | chose_other none e ↦ elim (chose _ _ _ _ e) [
-      chose_some is left first h ↦ let k = sign_comes sign.Return ts is left first in return_sound expr so k.0 ts left s rest k.1 h
-    | chose_other none e ↦ elim (chose _ _ _ _ e) [
-      chose_some is left first h ↦ let k = sign_comes sign.Raise ts is left first in raise_sound expr so k.0 ts left s rest k.1 h
-    | chose_other none e ↦ right_sound expr so ts s rest e
-    ] ] ] ] ]
+      | chose_some is left first h ↦ let k = sign_comes sign.Pass ts is left first in word_sound (key word.Pass k.0) s simple.Pass ts left rest k.1 h (simple_pass k.0)
+      | chose_other none e ↦ elim (chose _ _ _ _ e) [
+        | chose_some is left first h ↦ let k = sign_comes sign.Break ts is left first in word_sound (key word.Break k.0) s simple.Break ts left rest k.1 h (simple_break k.0)
+        | chose_other none e ↦ elim (chose _ _ _ _ e) [
+          | chose_some is left first h ↦ let k = sign_comes sign.Continue ts is left first in word_sound (key word.Continue k.0) s simple.Continue ts left rest k.1 h (simple_continue k.0)
+          | chose_other none e ↦ elim (chose _ _ _ _ e) [
+            | chose_some is left first h ↦ let k = sign_comes sign.Return ts is left first in return_sound expr so k.0 ts left s rest k.1 h
+            | chose_other none e ↦ elim (chose _ _ _ _ e) [
+              | chose_some is left first h ↦ let k = sign_comes sign.Raise ts is left first in raise_sound expr so k.0 ts left s rest k.1 h
+              | chose_other none e ↦ right_sound expr so ts s rest e
+            ]
+          ]
+        ]
+      ]
+    ]
 
 -- a simple statement with the end of its line
 pub record Lined (ts : List Token) (st : Statement) (rest : List Token) : Type 0 where
@@ -131,7 +132,9 @@ line_sound expr so (suc n) ts st rest e =
     let k = sign_comes sign.Newline a.rest b.value b.rest b.first in
     let first : first_line ts ≡ first_line x.0 = ap first_line x.1 ∙ first_line_is outer x.0 a.rest (simple_begins x.2) in
     record {
-      front = x.0; simple = a.value; line = k.0;
+      front = x.0;
+      simple = a.value;
+      line = k.0;
       tokens = behind x.0 (mark kind.Newline k.0 ∷ []) rest x.1 (k.1 ∙ ap (λ r. mark kind.Newline k.0 ∷ r) m.1);
       derivation = x.2;
       tree = ap (λ l. stmt.Simple l a.value) (sym first) ∙ m.0;

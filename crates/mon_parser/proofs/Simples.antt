@@ -1,25 +1,23 @@
 -- Simple statements are read up to the end of their line.
-use Rattle.std.proofs.Common.{◌≡◌, ℕ, zero, suc, ◌+◌, ◌<◌, ◌≤◌, max, List, [], ◌∷◌, ◌++◌, length, map, refl, sym, ap, ◌∙◌, arith, append_assoc, length-append}
-use Rattle.std.specs.Prelude.{Option, Some, None, ⊤}
+use Rattle.std.proofs.Common.{◌≡◌, ℕ, zero, suc, ◌<◌, ◌≤◌, List, [], ◌∷◌, ◌++◌, length, refl, ap, ◌∙◌, arith, append_assoc, length-append}
+use Rattle.std.specs.Prelude.{Some}
 use Rattle.mon_lexer.specs.declared.token.Token.{Token}
 use Rattle.mon_lexer.specs.declared.token.Kind.{Kind}
 use Rattle.mon_lexer.specs.declared.token.Kind.TheVariants as kind
 use Rattle.mon_lexer.specs.declared.token.Operator.TheVariants as operator
-use Rattle.mon_lexer.specs.declared.token.Keyword.TheVariants as word
 use Rattle.mon_parser.specs.declared.cursor.Sign.TheVariants as sign
 use Rattle.mon_parser.specs.declared.tree.BinaryOperator.{BinaryOperator}
 use Rattle.mon_parser.specs.declared.tree.Expression.{Expression}
 use Rattle.mon_parser.specs.declared.tree.Targets.{Targets}
 use Rattle.mon_parser.specs.declared.tree.Simple.{Simple}
 use Rattle.mon_parser.specs.declared.tree.Simple.TheVariants as simple
-use Rattle.mon_parser.specs.declared.tree.Statement.{Statement}
 use Rattle.mon_parser.specs.declared.tree.Statement as stmt
-use Rattle.mon_parser.specs.Tokens.{mark, key, symbol, name, augmented_op, first_line}
-use Rattle.mon_parser.specs.Depth.{expr_depth, targets_depth, simple_depth, stmt_depth}
-use Rattle.mon_parser.specs.Reader.{Answer, Reader, then_read, choose, pick, next_at, mark_at, name_at, binds, starts, within, read_tuple, read_rhs}
-use Rattle.mon_parser.specs.Statements.{starts_name, read_targets, maybe, read_assignment, read_augmented, read_right, read_simple, read_line}
-use Rattle.mon_parser.specs.Grammar.{IsExpr, IsTuple, tuple_one, IsRhs, rhs_tuple, IsTargets, IsSimple, simple_pass, simple_break, simple_continue, simple_return, simple_return_value, simple_raise, simple_raise_value, simple_augmented, simple_assign, simple_rhs}
-use Rattle.mon_parser.proofs.Left.{Reads, Stops}
+use Rattle.mon_parser.specs.Tokens.{mark, symbol, name, augmented_op, first_line}
+use Rattle.mon_parser.specs.Depth.{expr_depth, simple_depth, stmt_depth}
+use Rattle.mon_parser.specs.Reader.{Answer, Reader, then_read, choose, pick, next_at, mark_at, binds, starts, within, read_rhs}
+use Rattle.mon_parser.specs.Statements.{starts_name, read_assignment, read_augmented, read_right, read_simple, read_line}
+use Rattle.mon_parser.specs.Grammar.{IsExpr, IsRhs, rhs_tuple, IsTargets, IsSimple, simple_pass, simple_break, simple_continue, simple_return, simple_return_value, simple_raise, simple_raise_value, simple_augmented, simple_assign, simple_rhs}
+use Rattle.mon_parser.proofs.Left.{Reads}
 use Rattle.mon_parser.proofs.Prefix.{Begins}
 use Rattle.mon_parser.proofs.Prefixes.{depth_some}
 use Rattle.mon_parser.proofs.Items.{Ends}

@@ -1,8 +1,7 @@
 -- What is read as a statement derives: those with further clauses, and all of them tied together.
-use Rattle.std.proofs.Common.{◌≡◌, ℕ, zero, suc, ◌+◌, List, [], ◌∷◌, ◌++◌, length, refl, sym, ap, ◌∙◌, append_assoc, append-nil, subst}
-use Rattle.std.specs.Prelude.{Option, Some, None, ⊤, Bool, true, false}
+use Rattle.std.proofs.Common.{◌≡◌, ℕ, zero, suc, List, [], ◌∷◌, ◌++◌, length, refl, sym, ap, ◌∙◌, append-nil, subst}
+use Rattle.std.specs.Prelude.{Option, Some, None, ⊤, false}
 use Rattle.mon_lexer.specs.declared.token.Token.{Token}
-use Rattle.mon_lexer.specs.declared.token.Kind.{Kind}
 use Rattle.mon_lexer.specs.declared.token.Kind.TheVariants as kind
 use Rattle.mon_lexer.specs.declared.token.Operator.TheVariants as operator
 use Rattle.mon_lexer.specs.declared.token.Keyword.{Keyword}
@@ -10,25 +9,24 @@ use Rattle.mon_lexer.specs.declared.token.Keyword.TheVariants as word
 use Rattle.mon_parser.specs.declared.cursor.Sign.{Sign}
 use Rattle.mon_parser.specs.declared.cursor.Sign.TheVariants as sign
 use Rattle.mon_parser.specs.declared.tree.Expression.{Expression}
-use Rattle.mon_parser.specs.declared.tree.Targets.{Targets}
 use Rattle.mon_parser.specs.declared.tree.Statement.{Statement}
 use Rattle.mon_parser.specs.declared.tree.Statement.TheViews as compound
 use Rattle.mon_parser.specs.declared.tree.Handler.{Handler}
 use Rattle.mon_parser.specs.Tokens.{mark, key, symbol, name, first_line}
 use Rattle.mon_parser.specs.Depth.{stmt_depth}
-use Rattle.mon_parser.specs.Reader.{Answer, Reader, then_read, choose, pick, next_at, mark_at, name_at, within, read_tuple}
-use Rattle.mon_parser.specs.Statements.{read_targets, read_line, read_body, read_if, read_while, read_for, read_as, read_handlers, is_none, read_last, read_try, read_statement, block_at}
-use Rattle.mon_parser.specs.Grammar.{handler, IsExpr, IsTuple, IsTargets, IsBlock, IsStmt, stmt_simple, stmt_if, stmt_while, stmt_for, stmt_try, stmt_try_both, stmt_try_finally, IsFinally, finally_block, IsHandlers, handlers_one, handlers_more, handlers_bare, IsExcept, except_plain, except_as, bare_block}
+use Rattle.mon_parser.specs.Reader.{Reader, pick, next_at, mark_at, name_at}
+use Rattle.mon_parser.specs.Statements.{read_line, read_if, read_while, read_for, read_as, read_handlers, is_none, read_try, read_statement, block_at}
+use Rattle.mon_parser.specs.Grammar.{handler, IsExpr, IsBlock, IsStmt, stmt_simple, stmt_if, stmt_while, stmt_for, stmt_try, stmt_try_both, stmt_try_finally, IsFinally, finally_block, IsHandlers, handlers_one, handlers_more, handlers_bare, IsExcept, except_plain, except_as, bare_block}
 use Rattle.mon_parser.proofs.Left.{Sound, some_pair, then_was}
-use Rattle.mon_parser.proofs.Compared.{took, Chose, chose_other, chose_some, chose}
+use Rattle.mon_parser.proofs.Compared.{took, chose_other, chose_some, chose}
 use Rattle.mon_parser.proofs.Items.{DerivedAs}
 use Rattle.mon_parser.proofs.Sounds.{tuple_derives, name_is}
 use Rattle.mon_parser.proofs.Names.{targets_derive}
 use Rattle.mon_parser.proofs.Soundness.{SoundExpr}
 use Rattle.mon_parser.proofs.Signs.{sign_kind, sign_comes, behind, behind_token, within_is}
-use Rattle.mon_parser.proofs.SimpleSounds.{Lined, line_sound}
+use Rattle.mon_parser.proofs.SimpleSounds.{line_sound}
 use Rattle.mon_parser.proofs.Blocks.{handlers_some}
-use Rattle.mon_parser.proofs.BlockSounds.{SoundAs, SoundBranch, Body, body_sound, Branch, block_sound, if_sound}
+use Rattle.mon_parser.proofs.BlockSounds.{SoundAs, SoundBranch, body_sound, block_sound, if_sound}
 
 -- handlers, or none
 data Handled : List Token → List Handler → Type 0 where
@@ -47,14 +45,14 @@ data IsAs : List Token → Option (List ℕ) → Type 0 where
 as_sound : SoundAs IsAs read_as
 as_sound ts found rest e =
     elim (chose _ _ _ _ e) [
-      chose_other none h ↦ let p = some_pair None found ts rest h in ([], p.1, subst (λ z. IsAs [] z) p.0 as_none)
-    | chose_some is left first h ↦
-        let k = sign_comes sign.As ts is left first in
-        let a = then_was _ _ _ h in
-        let n = took name_at left a.value a.rest a.first in
-        let p = some_pair (Some a.value) found a.rest rest a.last in
-        let us : List Token = name a.value n.line ∷ [] in
-        (key word.As k.0 ∷ us, behind_token (key word.As k.0) us rest k.1 (n.front ∙ ap (λ j. mark j n.line ∷ a.rest) (name_is n.kind a.value n.says) ∙ ap (λ r. name a.value n.line ∷ r) p.1), subst (λ z. IsAs (key word.As k.0 ∷ us) z) p.0 (as_name k.0 n.line))
+      | chose_other none h ↦ let p = some_pair None found ts rest h in ([], p.1, subst (λ z. IsAs [] z) p.0 as_none)
+      | chose_some is left first h ↦
+          let k = sign_comes sign.As ts is left first in
+          let a = then_was _ _ _ h in
+          let n = took name_at left a.value a.rest a.first in
+          let p = some_pair (Some a.value) found a.rest rest a.last in
+          let us : List Token = name a.value n.line ∷ [] in
+          (key word.As k.0 ∷ us, behind_token (key word.As k.0) us rest k.1 (n.front ∙ ap (λ j. mark j n.line ∷ a.rest) (name_is n.kind a.value n.says) ∙ ap (λ r. name a.value n.line ∷ r) p.1), subst (λ z. IsAs (key word.As k.0 ∷ us) z) p.0 (as_name k.0 n.line))
     ]
 
 except_of : {ts vs us : List Token} {class : Expression} {found : Option (List ℕ)} {body : List Statement} (l j : ℕ) → IsExpr ts class → IsAs vs found → IsBlock us body → IsExcept (key word.Except l ∷ (ts ++ (vs ++ symbol operator.Colon j ∷ us))) (handler l (Some class) found body)
@@ -66,36 +64,36 @@ unfolding read_handlers
 handlers_sound expr block se so zero ts hs rest e = let p = some_pair [] hs ts rest e in ([], p.1, subst (λ z. Handled [] z) p.0 handled_none)
 handlers_sound expr block se so (suc turns) ts hs rest e =
     elim (chose _ _ _ _ e) [
-      chose_other none h ↦ let p = some_pair [] hs ts rest h in ([], p.1, subst (λ z. Handled [] z) p.0 handled_none)
-    | chose_some is left first h ↦
-        let k = sign_comes sign.Except ts is left first in
-        let line : first_line ts ≡ k.0 = ap first_line k.1 in
-        elim (chose _ _ _ _ h) [
-          chose_some colon mid second i ↦
-            let j = sign_comes sign.Colon left colon mid second in
-            let a = then_was _ _ _ i in
-            let p = some_pair (handler (first_line ts) None None a.value ∷ []) hs a.rest rest a.last in
-            let x = so mid a.value a.rest a.first in
-            let us : List Token = symbol operator.Colon j.0 ∷ x.0 in
-            (key word.Except k.0 ∷ us, behind_token (key word.Except k.0) us rest k.1 (behind_token (symbol operator.Colon j.0) x.0 rest j.1 (x.1 ∙ ap (λ r. x.0 ++ r) p.1)), subst (λ z. Handled (key word.Except k.0 ∷ us) z) (ap (λ l. handler l None None a.value ∷ []) (sym line) ∙ p.0) (handled (handlers_bare (bare_block k.0 j.0 x.2))))
-        | chose_other colon i ↦
-            let a = then_was _ _ _ i in
-            let b = then_was _ _ _ a.last in
-            let c = then_was _ _ _ b.last in
-            let d = then_was _ _ _ c.last in
-            let p = some_pair (handler (first_line ts) (Some a.value) b.value c.value ∷ d.value) hs d.rest rest d.last in
-            let x = se left a.value a.rest a.first in
-            let y = as_sound a.rest b.value b.rest b.first in
-            let z = body_sound block so b.rest c.value c.rest c.first in
-            let w = handlers_sound expr block se so turns c.rest d.value d.rest d.first in
-            let vs : List Token = symbol operator.Colon z.line ∷ z.inner in
-            let us : List Token = x.0 ++ (y.0 ++ vs) in
-            let front : ts ≡ (key word.Except k.0 ∷ us) ++ c.rest = behind_token (key word.Except k.0) us c.rest k.1 (behind x.0 (y.0 ++ vs) c.rest x.1 (behind y.0 vs c.rest y.1 z.tokens)) in (
-              (key word.Except k.0 ∷ us) ++ w.0,
-              behind (key word.Except k.0 ∷ us) w.0 rest front (w.1 ∙ ap (λ r. w.0 ++ r) p.1),
-              subst (λ t. Handled ((key word.Except k.0 ∷ us) ++ w.0) t) (ap (λ l. handler l (Some a.value) b.value c.value ∷ d.value) (sym line) ∙ p.0) (handled (handled_more (except_of k.0 z.line x.2 y.2 z.derivation) w.2)),
-            )
-        ]
+      | chose_other none h ↦ let p = some_pair [] hs ts rest h in ([], p.1, subst (λ z. Handled [] z) p.0 handled_none)
+      | chose_some is left first h ↦
+          let k = sign_comes sign.Except ts is left first in
+          let line : first_line ts ≡ k.0 = ap first_line k.1 in
+          elim (chose _ _ _ _ h) [
+            | chose_some colon mid second i ↦
+                let j = sign_comes sign.Colon left colon mid second in
+                let a = then_was _ _ _ i in
+                let p = some_pair (handler (first_line ts) None None a.value ∷ []) hs a.rest rest a.last in
+                let x = so mid a.value a.rest a.first in
+                let us : List Token = symbol operator.Colon j.0 ∷ x.0 in
+                (key word.Except k.0 ∷ us, behind_token (key word.Except k.0) us rest k.1 (behind_token (symbol operator.Colon j.0) x.0 rest j.1 (x.1 ∙ ap (λ r. x.0 ++ r) p.1)), subst (λ z. Handled (key word.Except k.0 ∷ us) z) (ap (λ l. handler l None None a.value ∷ []) (sym line) ∙ p.0) (handled (handlers_bare (bare_block k.0 j.0 x.2))))
+            | chose_other colon i ↦
+                let a = then_was _ _ _ i in
+                let b = then_was _ _ _ a.last in
+                let c = then_was _ _ _ b.last in
+                let d = then_was _ _ _ c.last in
+                let p = some_pair (handler (first_line ts) (Some a.value) b.value c.value ∷ d.value) hs d.rest rest d.last in
+                let x = se left a.value a.rest a.first in
+                let y = as_sound a.rest b.value b.rest b.first in
+                let z = body_sound block so b.rest c.value c.rest c.first in
+                let w = handlers_sound expr block se so turns c.rest d.value d.rest d.first in
+                let vs : List Token = symbol operator.Colon z.line ∷ z.inner in
+                let us : List Token = x.0 ++ (y.0 ++ vs) in
+                let front : ts ≡ (key word.Except k.0 ∷ us) ++ c.rest = behind_token (key word.Except k.0) us c.rest k.1 (behind x.0 (y.0 ++ vs) c.rest x.1 (behind y.0 vs c.rest y.1 z.tokens)) in (
+                  (key word.Except k.0 ∷ us) ++ w.0,
+                  behind (key word.Except k.0 ∷ us) w.0 rest front (w.1 ∙ ap (λ r. w.0 ++ r) p.1),
+                  subst (λ t. Handled ((key word.Except k.0 ∷ us) ++ w.0) t) (ap (λ l. handler l (Some a.value) b.value c.value ∷ d.value) (sym line) ∙ p.0) (handled (handled_more (except_of k.0 z.line x.2 y.2 z.derivation) w.2)),
+                )
+          ]
     ]
 
 -- behind the keyword of a statement
@@ -149,14 +147,14 @@ try_sound expr block se so l ts s rest e =
     let y = handlers_sound expr block se so (length a.rest) a.rest b.value b.rest b.first in
     let head : List Token = symbol operator.Colon x.line ∷ x.inner in
     elim (chose _ _ _ _ c.first) [
-      chose_some is left first h ↦
-        let k = sign_comes sign.Finally b.rest is left first in
-        let z = body_sound block so left c.value c.rest h in
-        let vs : List Token = key word.Finally k.0 ∷ (symbol operator.Colon z.line ∷ z.inner) in
-        (head ++ (y.0 ++ vs), behind head (y.0 ++ vs) rest x.tokens (behind y.0 vs rest y.1 (behind_token (key word.Finally k.0) (symbol operator.Colon z.line ∷ z.inner) rest k.1 (z.tokens ∙ ap (λ r. (symbol operator.Colon z.line ∷ z.inner) ++ r) m.1))), subst (λ t. IsStmt (key word.Try l ∷ (head ++ (y.0 ++ vs))) t) m.0 (try_of l x.line x.derivation y.2 (finally_block k.0 z.line z.derivation)))
-    | chose_other none h ↦
-        let z = try_without l x.line x.derivation y.2 h in
-        (head ++ y.0, behind head y.0 rest x.tokens (y.1 ∙ ap (λ r. y.0 ++ r) (z.0 ∙ m.1)), subst (λ t. IsStmt (key word.Try l ∷ (head ++ y.0)) t) m.0 z.1)
+      | chose_some is left first h ↦
+          let k = sign_comes sign.Finally b.rest is left first in
+          let z = body_sound block so left c.value c.rest h in
+          let vs : List Token = key word.Finally k.0 ∷ (symbol operator.Colon z.line ∷ z.inner) in
+          (head ++ (y.0 ++ vs), behind head (y.0 ++ vs) rest x.tokens (behind y.0 vs rest y.1 (behind_token (key word.Finally k.0) (symbol operator.Colon z.line ∷ z.inner) rest k.1 (z.tokens ∙ ap (λ r. (symbol operator.Colon z.line ∷ z.inner) ++ r) m.1))), subst (λ t. IsStmt (key word.Try l ∷ (head ++ (y.0 ++ vs))) t) m.0 (try_of l x.line x.derivation y.2 (finally_block k.0 z.line z.derivation)))
+      | chose_other none h ↦
+          let z = try_without l x.line x.derivation y.2 h in
+          (head ++ y.0, behind head y.0 rest x.tokens (y.1 ∙ ap (λ r. y.0 ++ r) (z.0 ∙ m.1)), subst (λ t. IsStmt (key word.Try l ∷ (head ++ y.0)) t) m.0 z.1)
     ]
 
 -- from what stands behind a keyword, with the line of the first token
@@ -178,18 +176,21 @@ stmt_sound : (expr : ℕ → Reader Expression) → SoundExpr expr → (n : ℕ)
 unfolding read_statement
 stmt_sound expr se n so sb ts s rest e =
     elim (chose _ _ _ _ e) [
-      chose_some is left first h ↦ keyed sign.If word.If refl (λ l. read_if (expr n) (block_at expr n) (λ l. read_statement expr n (Some l)) l) (branch_sound (λ l. read_if (expr n) (block_at expr n) (λ l. read_statement expr n (Some l)) l) (if_sound (expr n) (block_at expr n) (λ l. read_statement expr n (Some l)) (se n) so sb)) ts left is s rest first h
-    | chose_other none e ↦ elim (chose _ _ _ _ e) [
-      chose_some is left first h ↦ keyed sign.While word.While refl (λ l. read_while (expr n) (block_at expr n) l) (while_sound (expr n) (block_at expr n) (se n) so) ts left is s rest first h
-    | chose_other none e ↦ elim (chose _ _ _ _ e) [
-      chose_some is left first h ↦ keyed sign.For word.For refl (λ l. read_for (expr n) (block_at expr n) l) (for_sound (expr n) (block_at expr n) (se n) so) ts left is s rest first h
-    | chose_other none e ↦ elim (chose _ _ _ _ e) [
-      chose_some is left first h ↦ keyed sign.Try word.Try refl (λ l. read_try (expr n) (block_at expr n) l) (try_sound (expr n) (block_at expr n) (se n) so) ts left is s rest first h
-    | chose_other none e ↦
-        let x = line_sound expr se (suc n) ts s rest e in
-        let us : List Token = x.front ++ mark kind.Newline x.line ∷ [] in
-        (us, x.tokens, subst (λ z. IsStmt us z) x.tree (stmt_simple x.line x.derivation))
-    ] ] ] ]
+      | chose_some is left first h ↦ keyed sign.If word.If refl (λ l. read_if (expr n) (block_at expr n) (λ l. read_statement expr n (Some l)) l) (branch_sound (λ l. read_if (expr n) (block_at expr n) (λ l. read_statement expr n (Some l)) l) (if_sound (expr n) (block_at expr n) (λ l. read_statement expr n (Some l)) (se n) so sb)) ts left is s rest first h
+      | chose_other none e ↦ elim (chose _ _ _ _ e) [
+        | chose_some is left first h ↦ keyed sign.While word.While refl (λ l. read_while (expr n) (block_at expr n) l) (while_sound (expr n) (block_at expr n) (se n) so) ts left is s rest first h
+        | chose_other none e ↦ elim (chose _ _ _ _ e) [
+          | chose_some is left first h ↦ keyed sign.For word.For refl (λ l. read_for (expr n) (block_at expr n) l) (for_sound (expr n) (block_at expr n) (se n) so) ts left is s rest first h
+          | chose_other none e ↦ elim (chose _ _ _ _ e) [
+            | chose_some is left first h ↦ keyed sign.Try word.Try refl (λ l. read_try (expr n) (block_at expr n) l) (try_sound (expr n) (block_at expr n) (se n) so) ts left is s rest first h
+            | chose_other none e ↦
+                let x = line_sound expr se (suc n) ts s rest e in
+                let us : List Token = x.front ++ mark kind.Newline x.line ∷ [] in
+                (us, x.tokens, subst (λ z. IsStmt us z) x.tree (stmt_simple x.line x.derivation))
+          ]
+        ]
+      ]
+    ]
 
 both_sound : (expr : ℕ → Reader Expression) → SoundExpr expr → (n : ℕ) → SoundAs IsStmt (read_statement expr n None) × SoundBranch (λ l. read_statement expr n (Some l))
 unfolding read_statement

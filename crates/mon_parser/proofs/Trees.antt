@@ -1,25 +1,23 @@
 -- The reader of items reads exactly the trees of items.
-use Rattle.std.proofs.Common.{◌≡◌, ℕ, zero, suc, ◌+◌, ◌<◌, ◌≤◌, max, List, [], ◌∷◌, ◌++◌, length, map, refl, sym, ap, ◌∙◌, arith, append_assoc, append-nil, length-append, subst}
-use Rattle.std.specs.Prelude.{Option, Some, None, ⊤, Bool, true, false}
+use Rattle.std.proofs.Common.{◌≡◌, ℕ, ◌<◌, ◌≤◌, List, [], ◌∷◌, ◌++◌, length, map, refl, sym, ap, ◌∙◌, arith, append-nil, length-append, subst}
+use Rattle.std.specs.Prelude.{Some, None}
 use Rattle.mon_lexer.specs.declared.token.Token.{Token}
-use Rattle.mon_lexer.specs.declared.token.Kind.{Kind}
 use Rattle.mon_lexer.specs.declared.token.Kind.TheVariants as kind
 use Rattle.mon_lexer.specs.declared.token.Operator.TheVariants as operator
 use Rattle.mon_lexer.specs.declared.token.Keyword.TheVariants as word
 use Rattle.mon_parser.specs.declared.cursor.Sign.TheVariants as sign
-use Rattle.mon_parser.specs.declared.tree.Constant.{Constant}
 use Rattle.mon_parser.specs.declared.tree.Statement.{Statement}
 use Rattle.mon_parser.specs.declared.tree.ModuleItem.{ModuleItem}
 use Rattle.mon_parser.specs.declared.tree.ModuleItem.TheVariants as item
 use Rattle.mon_parser.specs.Tokens.{mark, key, symbol, name, text, first_line, most_open}
-use Rattle.mon_parser.specs.Depth.{item_depth, const_depth, stmt_depth, most}
-use Rattle.mon_parser.specs.Reader.{Answer, Reader, then_read, choose, pick, next_at, mark_at, name_at, text_at, within, more_texts, read_expr}
-use Rattle.mon_parser.specs.Statements.{starts_name, starts_constant, read_parameters, read_body, block_at, body_at, read_constants, read_constant, read_def, read_item}
-use Rattle.mon_parser.specs.Grammar.{IsTexts, texts_one, texts_more, IsParams, IsConsts, IsBlock, IsItem, item_def, item_const, item_texts}
+use Rattle.mon_parser.specs.Depth.{item_depth, stmt_depth, most}
+use Rattle.mon_parser.specs.Reader.{Answer, then_read, choose, next_at, mark_at, name_at, text_at, within, more_texts, read_expr}
+use Rattle.mon_parser.specs.Statements.{starts_name, starts_constant, block_at, read_constants, read_constant, read_def, read_item}
+use Rattle.mon_parser.specs.Grammar.{texts_one, texts_more, IsBlock, IsItem, item_def, item_const, item_texts}
 use Rattle.mon_parser.specs.Derives.{Derives, HasTree}
 use Rattle.mon_parser.proofs.Left.{some_pair, then_was}
-use Rattle.mon_parser.proofs.Compared.{took, Chose, chose_other, chose_some, chose}
-use Rattle.mon_parser.proofs.Items.{DerivedAs, Ends}
+use Rattle.mon_parser.proofs.Compared.{took, chose_other, chose_some, chose}
+use Rattle.mon_parser.proofs.Items.{Ends}
 use Rattle.mon_parser.proofs.Atoms.{texts_end, texts_go_on}
 use Rattle.mon_parser.proofs.Sounds.{joined_more, text_is, name_is, texts_derive}
 use Rattle.mon_parser.proofs.Names.{parameters_read, parameters_derive}
@@ -29,8 +27,8 @@ use Rattle.mon_parser.proofs.Soundness.{expr_sound}
 use Rattle.mon_parser.proofs.Signs.{sign_comes, behind, behind_token, within_is}
 use Rattle.mon_parser.proofs.Constants.{const_reads, consts_read}
 use Rattle.mon_parser.proofs.ConstantSounds.{const_sound, consts_derive}
-use Rattle.mon_parser.proofs.Blocks.{ReadsBlock, blocks_read}
-use Rattle.mon_parser.proofs.BlockSounds.{SoundAs, Body, body_sound}
+use Rattle.mon_parser.proofs.Blocks.{blocks_read}
+use Rattle.mon_parser.proofs.BlockSounds.{body_sound}
 use Rattle.mon_parser.proofs.StatementSounds.{blocks_sound}
 
 -- each derivation within the limit on nodes is read
@@ -126,16 +124,16 @@ text_sound ts tree rest e =
 pub item_sound : (b : ℕ) (ts : List Token) (tree : ModuleItem) (rest : List Token) → read_item b ts ≡ Some (tree, rest) → ItemDerived ts tree rest
 item_sound b ts tree rest e =
     elim (chose _ _ _ _ e) [
-      chose_some is left first h ↦
-        let k = sign_comes sign.Def ts is left first in
-        let line : first_line ts ≡ k.0 = ap first_line k.1 in
-        let x = def_sound b k.0 left tree rest (subst (λ l. read_def b l left ≡ Some (tree, rest)) line h) in
-        (x.0, k.1 ∙ x.1, x.2, x.3)
-    | chose_other none h ↦ elim (chose _ _ _ _ h) [
-        chose_some n left first i ↦
-          let k = took name_at ts n left first in
-          constant_sound b n k.line ts left tree rest (k.front ∙ ap (λ q. mark q k.line ∷ left) (name_is k.kind n k.says)) i
-      | chose_other none i ↦ text_sound ts tree rest i
+      | chose_some is left first h ↦
+          let k = sign_comes sign.Def ts is left first in
+          let line : first_line ts ≡ k.0 = ap first_line k.1 in
+          let x = def_sound b k.0 left tree rest (subst (λ l. read_def b l left ≡ Some (tree, rest)) line h) in
+          (x.0, k.1 ∙ x.1, x.2, x.3)
+      | chose_other none h ↦ elim (chose _ _ _ _ h) [
+        | chose_some n left first i ↦
+            let k = took name_at ts n left first in
+            constant_sound b n k.line ts left tree rest (k.front ∙ ap (λ q. mark q k.line ∷ left) (name_is k.kind n k.says)) i
+        | chose_other none i ↦ text_sound ts tree rest i
       ]
     ]
 

@@ -1,5 +1,5 @@
 -- What has a tree: tokens that derive from `item`, with at most 100 brackets open at once, and a tree of at most 256 nodes in depth.
-use Rattle.std.specs.Prelude.{◌≡◌, ℕ, ◌≤◌, List, [], ◌∷◌, ◌++◌, Result, Ok, Err, MatchResult}
+use Rattle.std.specs.Prelude.{◌≡◌, ℕ, ◌≤◌, List, [], ◌∷◌, ◌++◌, Result, Ok, Err}
 use Rattle.mon_lexer.specs.declared.token.Token.{Token}
 use Rattle.mon_lexer.specs.declared.token.Item.{Item}
 use Rattle.mon_parser.specs.declared.refusal.Refusal.{Refusal}

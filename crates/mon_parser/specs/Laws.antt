@@ -1,5 +1,5 @@
 -- Laws of the grammar.
-use Rattle.std.specs.Prelude.{◌≡◌, ℕ, ◌≤◌, List, Result, Err}
+use Rattle.std.specs.Prelude.{◌≡◌, ◌≤◌, List, Result, Err}
 use Rattle.mon_lexer.specs.declared.token.Token.{Token}
 use Rattle.mon_lexer.specs.declared.token.Item.{Item}
 use Rattle.mon_parser.specs.declared.parser.SyntaxFault.{SyntaxFault}

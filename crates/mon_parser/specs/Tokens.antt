@@ -84,14 +84,15 @@ method_word method.Send = 115 ∷ 101 ∷ 110 ∷ 100 ∷ []
 method_word method.Throw = 116 ∷ 104 ∷ 114 ∷ 111 ∷ 119 ∷ []
 method_word method.Close = 99 ∷ 108 ∷ 111 ∷ 115 ∷ 101 ∷ []
 
--- how many brackets are open at once, at most, where some are open already
+-- how many brackets are open behind a token, where some are open before it
+abbrev pub open_after : ℕ → Kind → ℕ
+open_after n (kind.Operator operator.OpenRound) = n + 1
+open_after n (kind.Operator operator.OpenSquare) = n + 1
+open_after n (kind.Operator operator.CloseRound) = n - 1
+open_after n (kind.Operator operator.CloseSquare) = n - 1
+open_after n _ = n
+
+-- how many are open at once, at most
 abbrev pub most_open : ℕ → List Token → ℕ
 most_open n [] = n
 most_open n (t ∷ ts) = max n (most_open (open_after n t.kind) ts)
-  where
-    open_after : ℕ → Kind → ℕ
-    open_after n (kind.Operator operator.OpenRound) = n + 1
-    open_after n (kind.Operator operator.OpenSquare) = n + 1
-    open_after n (kind.Operator operator.CloseRound) = n - 1
-    open_after n (kind.Operator operator.CloseSquare) = n - 1
-    open_after n _ = n

@@ -1,10 +1,9 @@
 //! Items, and the limit on brackets.
 
-ghost use Rattle.std.specs.Prelude.{◌≡◌, List, length};
+ghost use Rattle.std.specs.Prelude.{◌≡◌, ◌<◌, ◌^◌, max};
 ghost use Rattle.mon_parser.specs.Code.{Gives};
-ghost use Rattle.mon_parser.specs.Reader.{read_expr};
-ghost use Rattle.mon_parser.specs.Statements.{read_item, read_def};
-ghost use Rattle.mon_parser.specs.Tokens.{most_open};
+ghost use Rattle.mon_parser.specs.ItemReadings.{at_item, at_def};
+ghost use Rattle.mon_parser.specs.Tokens.{most_open, open_after};
 
 use crate::constant::constants;
 use crate::cursor::{Cursor, Sign};
@@ -18,7 +17,7 @@ use std::alloc::Global;
 
 /// The tree of an item, with fewer than so many brackets open at once.
 pub fn item(alloc: Global, brackets: usize, cursor: &mut Cursor) -> Result<ModuleItem, Refusal>
-    ensures { Gives (read_item brackets cursor.old) result cursor.new }
+    ensures { Gives (at_item brackets cursor.old) result cursor.new }
 {
     let line = cursor.line();
     if cursor.take(Sign::Def) {
@@ -49,7 +48,7 @@ fn function(
     line: u32,
     cursor: &mut Cursor,
 ) -> Result<ModuleItem, Refusal>
-    ensures { Gives (read_def brackets line cursor.old) result cursor.new }
+    ensures { Gives (at_def brackets line cursor.old) result cursor.new }
 {
     let name = cursor.expect_name(alloc)?;
     cursor.expect(Sign::OpenRound)?;
@@ -71,23 +70,31 @@ fn function(
 pub fn most_open(tokens: &[Token]) -> usize
     ensures { result ≡ most_open 0 tokens.now }
 {
-    let mut open = 0;
+    let mut depth = 0;
     let mut most = 0;
     for token in tokens {
-        match &token.kind {
-            Kind::Operator(Operator::OpenRound | Operator::OpenSquare) => {
-                open += 1;
-                if most < open {
-                    most = open;
-                }
-            }
-            Kind::Operator(Operator::CloseRound | Operator::CloseSquare) => {
-                if 0 < open {
-                    open -= 1;
-                }
-            }
-            _ => {}
-        }
+        depth = open_after(depth, &token.kind);
+        most = greater(most, depth);
     }
     most
+}
+
+/// How many brackets are open behind a token of this kind.
+fn open_after(depth: usize, kind: &Kind) -> usize
+    requires { depth < 2 ^ 63 }
+    ensures { result ≡ open_after depth kind.now }
+{
+    match kind {
+        Kind::Operator(Operator::OpenRound) => depth + 1,
+        Kind::Operator(Operator::OpenSquare) => depth + 1,
+        Kind::Operator(Operator::CloseRound) => depth.saturating_sub(1),
+        Kind::Operator(Operator::CloseSquare) => depth.saturating_sub(1),
+        _ => depth,
+    }
+}
+
+fn greater(a: usize, b: usize) -> usize
+    ensures { result ≡ max a b }
+{
+    if a < b { b } else { a }
 }

@@ -1,6 +1,5 @@
 use Rattle.std.proofs.Common.{◌≡◌, ◌++◌, ◌∷◌, [], sym, ap, ◌∙◌, rules, arith, FitsSigned, w64, false, true}
 use Rattle.std.proofs.lemmas.Int.{to_z-of_z}
-use Rattle.mon_lexer.specs.declared.token.Token.{Token}
 use Rattle.mon_parser.specs.Reader.{is_comma}
 use Rattle.mon_parser.specs.declared.tree.Constant as const
 use Rattle.mon_parser.specs.declared.tree.Constant.TheViews as consts
