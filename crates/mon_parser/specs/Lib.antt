@@ -1,8 +1,10 @@
-pub mod Tokens
-pub mod Depth
-pub mod Grammar
-pub mod Derives
-pub mod Reader
-pub mod Statements
 pub mod Code
+pub mod Depth
+pub mod Derives
+pub mod Grammar
 pub mod Laws
+pub mod Reader
+pub mod Readings
+pub mod StatementReadings
+pub mod Statements
+pub mod Tokens
