@@ -56,3 +56,6 @@ depth_yield_some l a = ap expr_depth (sym (node.rolls-Yield l (Some a))) ∙ fol
 pub most_more : (es : List Expression) (e : Expression) → most (map expr_depth (es ++ e ∷ [])) ≡ max (most (map expr_depth es)) (expr_depth e)
 most_more [] e = omega arith
 most_more (a ∷ es) e = let h = most_more es e in omega (arith, h)
+
+pub depth_yield_none : (l : ℕ) → expr_depth (node.Yield l None) ≡ 1
+depth_yield_none l = ap expr_depth (sym (node.rolls-Yield l None)) ∙ fold-roll-Expression ℕ expr_depth_step (Expression-F.Yield l None)

@@ -2,13 +2,17 @@ pub mod Atoms
 pub mod Begins
 pub mod BlockSounds
 pub mod Blocks
+pub mod Calls
 pub mod Compare
 pub mod Compared
 pub mod ConstantSounds
 pub mod ConstantSteps
 pub mod Constants
+pub mod DefSteps
 pub mod Depths
+pub mod ExpressionCalls
 pub mod Firsts
+pub mod Giving
 pub mod Grouping
 pub mod ItemSteps
 pub mod Items
@@ -18,6 +22,7 @@ pub mod Lists
 pub mod Modules
 pub mod Names
 pub mod Nested
+pub mod Operands
 pub mod Parsing
 pub mod Postfix
 pub mod Prefix
@@ -31,6 +36,7 @@ pub mod Soundness
 pub mod Sounds
 pub mod StatementDepths
 pub mod StatementSounds
+pub mod StatementSteps
 pub mod Steps
 pub mod Trees
 pub mod Tuples

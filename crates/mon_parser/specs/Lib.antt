@@ -5,6 +5,8 @@ pub mod Nesting
 pub mod Derives
 pub mod Reader
 pub mod Statements
-pub mod Code
+pub mod Readings
+pub mod StatementReadings
 pub mod ItemReadings
+pub mod Code
 pub mod Laws

@@ -25,9 +25,12 @@ pub struct GrownSimple {
 impl Model for GrownSimple {
     ghost use Rattle.std.specs.Prelude.{◌≡◌, ◌+◌};
     ghost use Rattle.mon_parser.specs.declared.tree.Simple.{Simple as Tree};
+    ghost use Rattle.mon_parser.specs.contracts.tree.Simple as the_tree;
     ghost use Rattle.mon_parser.specs.Depth.{simple_depth};
 
     ghost Value = { Tree };
+
+    ghost coded = { the_tree.the_row.coded };
 
     ghost view = { λ g. g.tree };
 
@@ -112,7 +115,7 @@ impl Model for Block {
 }
 
 impl Block {
-    ghost use Rattle.std.specs.Prelude.{[], ◌∷◌, ◌++◌, map, OnOk};
+    ghost use Rattle.std.specs.Prelude.{[], ◌∷◌, ◌++◌, map, OnOk, IfOk};
     ghost use Rattle.mon_parser.specs.Depth.{most};
 
     pub fn new(alloc: Global) -> Block
@@ -122,6 +125,15 @@ impl Block {
             items: Items::new(alloc),
             depth: 0,
         }
+    }
+
+    /// A block of one statement.
+    pub fn of_one(alloc: Global, statement: GrownStatement) -> Result<Block, AllocError>
+        ensures { IfOk result (λ block. block ≡ statement ∷ []) }
+    {
+        let mut block = Block::new(alloc);
+        block.push(statement)?;
+        Ok(block)
     }
 
     #[tactic(auto, using(std::proofs::lemmas::Grind::common_steps, crate::proofs::StatementDepths::most_statements))]
@@ -173,8 +185,9 @@ impl Model for Handlers {
 }
 
 impl Handlers {
-    ghost use Rattle.std.specs.Prelude.{[], ◌∷◌, ◌++◌, Some, None, OnOk, ◌↔◌, IsTrue};
+    ghost use Rattle.std.specs.Prelude.{[], ◌∷◌, ◌++◌, Some, None, OnOk};
     ghost use Rattle.mon_parser.specs.Grammar.{handler};
+    ghost use Rattle.mon_parser.specs.Statements.{is_none};
 
     pub fn new(alloc: Global) -> Handlers
         ensures { result ≡ [] }
@@ -186,9 +199,12 @@ impl Handlers {
     }
 
     pub fn is_empty(&self) -> bool
-        ensures { IsTrue result ↔ (self.now ≡ []) }
+        ensures { result ≡ is_none self.now }
     {
-        self.items.is_empty()
+        match self.items.as_slice() {
+            [] => true,
+            _ => false,
+        }
     }
 
     #[tactic(auto, using(std::proofs::lemmas::Grind::common_steps, crate::proofs::StatementDepths::most_handlers, crate::proofs::StatementDepths::depth_handler))]

@@ -7,7 +7,7 @@ ghost use Rattle.mon_parser.specs.Statements.{read_constant};
 
 use crate::block::{ConstantParts, GrownConstant};
 use crate::cursor::{Cursor, Sign};
-use crate::expression::texts;
+use crate::operand::texts;
 use crate::refusal::Refusal;
 use crate::tree::Constant;
 use std::alloc::Global;

@@ -7,7 +7,7 @@ ghost use Rattle.mon_parser.specs.Tokens.{most_open, open_after};
 
 use crate::constant::constants;
 use crate::cursor::{Cursor, Sign};
-use crate::expression::texts;
+use crate::operand::texts;
 use crate::refusal::Refusal;
 use crate::statement::{body, parameters};
 use crate::tree::{Function, ModuleItem};

@@ -9,6 +9,7 @@ mod grown;
 mod item;
 mod laws;
 mod levels;
+mod operand;
 mod parser;
 mod refusal;
 mod statement;

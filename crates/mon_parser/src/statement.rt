@@ -1,9 +1,9 @@
 //! Statements, by recursive descent.
 
-ghost use Rattle.std.specs.Prelude.{◌≡◌, ◌<◌, length, Some, None};
-ghost use Rattle.mon_parser.specs.Code.{Gives, with_front};
-ghost use Rattle.mon_parser.specs.Reader.{read_expr, next_at, name_at, more_items};
-ghost use Rattle.mon_parser.specs.Statements.{read_statement, read_line, read_simple, read_right, read_assignment, read_augmented, read_targets, read_parameters, starts_name, read_as, read_handlers, read_last, block_at, body_at, else_at};
+ghost use Rattle.std.specs.Prelude.{[], length};
+ghost use Rattle.mon_parser.specs.Code.{Gives};
+ghost use Rattle.mon_parser.specs.Statements.{read_targets, read_parameters, read_as};
+ghost use Rattle.mon_parser.specs.StatementReadings.{at_simple, at_assignment_or_value, at_augmented, at_assignment, at_line, at_statement, at_branch, at_while, at_for, at_try, at_other, at_elif, handlers_from, at_handler, at_bare_handler, at_last, at_body, at_block, block_line, statements_from, names_from};
 
 use crate::block::{self, Block, GrownSimple, GrownStatement, Handlers, depth_of_targets};
 use crate::cursor::{Cursor, Sign};
@@ -21,11 +21,14 @@ fn further_names(
     mut names: Items<Text>,
     cursor: &mut Cursor,
 ) -> Result<Items<Text>, Refusal>
-    ensures { Gives (with_front names (more_items starts_name (next_at name_at) (length cursor.old) cursor.old)) result cursor.new }
+    ensures { Gives (names_from names (length cursor.old) cursor.old) result cursor.new }
 {
     let turns = cursor.len();
     for _turn in 0..turns {
-        if !cursor.take(Sign::Comma) || !cursor.starts_name() {
+        if !cursor.take(Sign::Comma) {
+            return Ok(names);
+        }
+        if !cursor.starts_name() {
             return Ok(names);
         }
         let name = cursor.expect_name(alloc)?;
@@ -67,7 +70,7 @@ fn simple(
     nodes: u32,
     cursor: &mut Cursor,
 ) -> Result<GrownSimple, Refusal>
-    ensures { Gives (read_simple (read_expr brackets nodes) cursor.old) result cursor.new }
+    ensures { Gives (at_simple brackets nodes cursor.old) result cursor.new }
 {
     if cursor.take(Sign::Pass) {
         return Ok(GrownSimple::new(Simple::Pass, 0));
@@ -105,7 +108,7 @@ fn assignment_or_value(
     nodes: u32,
     cursor: &mut Cursor,
 ) -> Result<GrownSimple, Refusal>
-    ensures { Gives (read_right (read_expr brackets nodes) cursor.old) result cursor.new }
+    ensures { Gives (at_assignment_or_value brackets nodes cursor.old) result cursor.new }
 {
     let start = cursor.copy();
     let value = right_side(alloc, brackets, nodes, cursor)?;
@@ -127,7 +130,7 @@ fn augmented(
     nodes: u32,
     cursor: &mut Cursor,
 ) -> Result<GrownSimple, Refusal>
-    ensures { Gives (read_augmented (read_expr brackets nodes) cursor.old) result cursor.new }
+    ensures { Gives (at_augmented brackets nodes cursor.old) result cursor.new }
 {
     let name = cursor.expect_name(alloc)?;
     let op = cursor.expect_augmented()?;
@@ -142,7 +145,7 @@ fn assignment(
     nodes: u32,
     cursor: &mut Cursor,
 ) -> Result<GrownSimple, Refusal>
-    ensures { Gives (read_assignment (read_expr brackets nodes) cursor.old) result cursor.new }
+    ensures { Gives (at_assignment brackets nodes cursor.old) result cursor.new }
 {
     let to = targets(alloc, cursor)?;
     cursor.expect(Sign::Assign)?;
@@ -158,7 +161,7 @@ fn simple_line(
     nodes: u32,
     cursor: &mut Cursor,
 ) -> Result<GrownStatement, Refusal>
-    ensures { Gives (read_line (read_expr brackets) nodes cursor.old) result cursor.new }
+    ensures { Gives (at_line brackets nodes cursor.old) result cursor.new }
 {
     if nodes == 0 {
         return Err(Refusal::Syntax);
@@ -169,110 +172,17 @@ fn simple_line(
     statement.on_line(line)
 }
 
-/// A statement.
-#[cycle(statement)]
-fn statement(
+/// A block of one simple statement.
+fn block_on_line(
     alloc: Global,
     brackets: usize,
     nodes: u32,
     cursor: &mut Cursor,
-) -> Result<GrownStatement, Refusal>
-    ensures { Gives (read_statement (read_expr brackets) nodes None cursor.old) result cursor.new }
+) -> Result<Block, Refusal>
+    ensures { Gives (block_line brackets nodes cursor.old) result cursor.new }
 {
-    if nodes == 0 {
-        return Err(Refusal::Syntax);
-    }
-    let line = cursor.line();
-    if cursor.take(Sign::If) {
-        return branch(alloc, brackets, nodes, line, cursor);
-    }
-    if cursor.take(Sign::While) {
-        let test = expression(alloc, brackets, nodes - 1, cursor)?;
-        let body = body(alloc, brackets, nodes - 1, cursor)?;
-        return block::while_loop(line, test, body);
-    }
-    if cursor.take(Sign::For) {
-        let to = targets(alloc, cursor)?;
-        cursor.expect(Sign::In)?;
-        let over = expressions(alloc, brackets, nodes - 1, cursor)?;
-        let body = body(alloc, brackets, nodes - 1, cursor)?;
-        return block::for_loop(line, to, over, body);
-    }
-    if cursor.take(Sign::Try) {
-        let body = body(alloc, brackets, nodes - 1, cursor)?;
-        let handlers = handlers(alloc, brackets, nodes - 1, cursor)?;
-        let last = last(alloc, brackets, nodes - 1, handlers.is_empty(), cursor)?;
-        return block::try_block(line, body, handlers, last);
-    }
-    simple_line(alloc, brackets, nodes, cursor)
-}
-
-/// Behind the `if` or `elif` of this line.
-#[cycle(statement)]
-fn branch(
-    alloc: Global,
-    brackets: usize,
-    nodes: u32,
-    line: u32,
-    cursor: &mut Cursor,
-) -> Result<GrownStatement, Refusal>
-    ensures { Gives (read_statement (read_expr brackets) nodes (Some line) cursor.old) result cursor.new }
-{
-    if nodes == 0 {
-        return Err(Refusal::Syntax);
-    }
-    let test = expression(alloc, brackets, nodes - 1, cursor)?;
-    let body = body(alloc, brackets, nodes - 1, cursor)?;
-    let other = other(alloc, brackets, nodes - 1, cursor)?;
-    block::branch(line, test, body, other)
-}
-
-/// The rest of an `if`: an `elif`, an `else` or nothing.
-#[cycle(statement)]
-fn other(alloc: Global, brackets: usize, nodes: u32, cursor: &mut Cursor) -> Result<Block, Refusal>
-    ensures { Gives (else_at (read_expr brackets) nodes cursor.old) result cursor.new }
-{
-    let line = cursor.line();
-    if cursor.take(Sign::Elif) {
-        let statement = branch(alloc, brackets, nodes, line, cursor)?;
-        let mut block = Block::new(alloc);
-        block.push(statement)?;
-        return Ok(block);
-    }
-    if cursor.take(Sign::Else) {
-        return body(alloc, brackets, nodes, cursor);
-    }
-    Ok(Block::new(alloc))
-}
-
-/// Handlers. Behind a bare one stands no other.
-#[cycle(statement)]
-fn handlers(
-    alloc: Global,
-    brackets: usize,
-    nodes: u32,
-    cursor: &mut Cursor,
-) -> Result<Handlers, Refusal>
-    ensures { Gives (read_handlers (read_expr brackets nodes) (block_at (read_expr brackets) nodes) (length cursor.old) cursor.old) result cursor.new }
-{
-    let mut handlers = Handlers::new(alloc);
-    let turns = cursor.len();
-    for _turn in 0..turns {
-        let line = cursor.line();
-        if !cursor.take(Sign::Except) {
-            return Ok(handlers);
-        }
-        if cursor.take(Sign::Colon) {
-            let body = block_of(alloc, brackets, nodes, cursor)?;
-            handlers.push_bare(line, body)?;
-            return Ok(handlers);
-        }
-        let class = expression(alloc, brackets, nodes, cursor)?;
-        let name = name_after_as(alloc, cursor)?;
-        let body = body(alloc, brackets, nodes, cursor)?;
-        handlers.push(line, class, name, body)?;
-    }
-    Ok(handlers)
+    let statement = simple_line(alloc, brackets, nodes, cursor)?;
+    Ok(Block::of_one(alloc, statement)?)
 }
 
 /// A name after `as`, if there is one.
@@ -286,6 +196,197 @@ fn name_after_as(alloc: Global, cursor: &mut Cursor) -> Result<Option<Text>, Ref
     Ok(Some(name))
 }
 
+/// A statement.
+#[cycle(statement)]
+fn statement(
+    alloc: Global,
+    brackets: usize,
+    nodes: u32,
+    cursor: &mut Cursor,
+) -> Result<GrownStatement, Refusal>
+    ensures { Gives (at_statement brackets nodes cursor.old) result cursor.new }
+{
+    if nodes == 0 {
+        return Err(Refusal::Syntax);
+    }
+    let line = cursor.line();
+    if cursor.take(Sign::If) {
+        return branch(alloc, brackets, nodes - 1, line, cursor);
+    }
+    if cursor.take(Sign::While) {
+        return while_loop(alloc, brackets, nodes - 1, line, cursor);
+    }
+    if cursor.take(Sign::For) {
+        return for_loop(alloc, brackets, nodes - 1, line, cursor);
+    }
+    if cursor.take(Sign::Try) {
+        return try_block(alloc, brackets, nodes - 1, line, cursor);
+    }
+    simple_line(alloc, brackets, nodes, cursor)
+}
+
+/// Behind the `if` or `elif` of this line.
+#[cycle(statement)]
+fn branch(
+    alloc: Global,
+    brackets: usize,
+    nodes: u32,
+    line: u32,
+    cursor: &mut Cursor,
+) -> Result<GrownStatement, Refusal>
+    ensures { Gives (at_branch brackets nodes line cursor.old) result cursor.new }
+{
+    let test = expression(alloc, brackets, nodes, cursor)?;
+    let body = body(alloc, brackets, nodes, cursor)?;
+    let other = other(alloc, brackets, nodes, cursor)?;
+    block::branch(line, test, body, other)
+}
+
+/// Behind the `while` of this line.
+#[cycle(statement)]
+fn while_loop(
+    alloc: Global,
+    brackets: usize,
+    nodes: u32,
+    line: u32,
+    cursor: &mut Cursor,
+) -> Result<GrownStatement, Refusal>
+    ensures { Gives (at_while brackets nodes line cursor.old) result cursor.new }
+{
+    let test = expression(alloc, brackets, nodes, cursor)?;
+    let body = body(alloc, brackets, nodes, cursor)?;
+    block::while_loop(line, test, body)
+}
+
+/// Behind the `for` of this line.
+#[cycle(statement)]
+fn for_loop(
+    alloc: Global,
+    brackets: usize,
+    nodes: u32,
+    line: u32,
+    cursor: &mut Cursor,
+) -> Result<GrownStatement, Refusal>
+    ensures { Gives (at_for brackets nodes line cursor.old) result cursor.new }
+{
+    let to = targets(alloc, cursor)?;
+    cursor.expect(Sign::In)?;
+    let over = expressions(alloc, brackets, nodes, cursor)?;
+    let body = body(alloc, brackets, nodes, cursor)?;
+    block::for_loop(line, to, over, body)
+}
+
+/// Behind the `try` of this line.
+#[cycle(statement)]
+fn try_block(
+    alloc: Global,
+    brackets: usize,
+    nodes: u32,
+    line: u32,
+    cursor: &mut Cursor,
+) -> Result<GrownStatement, Refusal>
+    ensures { Gives (at_try brackets nodes line cursor.old) result cursor.new }
+{
+    let body = body(alloc, brackets, nodes, cursor)?;
+    let handlers = handlers(alloc, brackets, nodes, cursor)?;
+    let last = last(alloc, brackets, nodes, handlers.is_empty(), cursor)?;
+    block::try_block(line, body, handlers, last)
+}
+
+/// The rest of an `if`: an `elif`, an `else` or nothing.
+#[cycle(statement)]
+fn other(alloc: Global, brackets: usize, nodes: u32, cursor: &mut Cursor) -> Result<Block, Refusal>
+    ensures { Gives (at_other brackets nodes cursor.old) result cursor.new }
+{
+    let line = cursor.line();
+    if cursor.take(Sign::Elif) {
+        return elif(alloc, brackets, nodes, line, cursor);
+    }
+    if cursor.take(Sign::Else) {
+        return body(alloc, brackets, nodes, cursor);
+    }
+    Ok(Block::new(alloc))
+}
+
+/// Behind the `elif` of this line, as a block.
+#[cycle(statement)]
+fn elif(
+    alloc: Global,
+    brackets: usize,
+    nodes: u32,
+    line: u32,
+    cursor: &mut Cursor,
+) -> Result<Block, Refusal>
+    ensures { Gives (at_elif brackets nodes line cursor.old) result cursor.new }
+{
+    if nodes == 0 {
+        return Err(Refusal::Syntax);
+    }
+    let statement = branch(alloc, brackets, nodes - 1, line, cursor)?;
+    Ok(Block::of_one(alloc, statement)?)
+}
+
+/// Handlers. Behind a bare one stands no other.
+#[cycle(statement)]
+fn handlers(
+    alloc: Global,
+    brackets: usize,
+    nodes: u32,
+    cursor: &mut Cursor,
+) -> Result<Handlers, Refusal>
+    ensures { Gives (handlers_from brackets nodes [] (length cursor.old) cursor.old) result cursor.new }
+{
+    let mut handlers = Handlers::new(alloc);
+    let turns = cursor.len();
+    for _turn in 0..turns {
+        let line = cursor.line();
+        if !cursor.take(Sign::Except) {
+            return Ok(handlers);
+        }
+        if cursor.take(Sign::Colon) {
+            return bare_handler(alloc, brackets, nodes, line, handlers, cursor);
+        }
+        handlers = handler(alloc, brackets, nodes, line, handlers, cursor)?;
+    }
+    Ok(handlers)
+}
+
+/// These handlers and one of a class, behind the `except` of this line.
+#[cycle(statement)]
+fn handler(
+    alloc: Global,
+    brackets: usize,
+    nodes: u32,
+    line: u32,
+    mut handlers: Handlers,
+    cursor: &mut Cursor,
+) -> Result<Handlers, Refusal>
+    ensures { Gives (at_handler brackets nodes line handlers cursor.old) result cursor.new }
+{
+    let class = expression(alloc, brackets, nodes, cursor)?;
+    let name = name_after_as(alloc, cursor)?;
+    let body = body(alloc, brackets, nodes, cursor)?;
+    handlers.push(line, class, name, body)?;
+    Ok(handlers)
+}
+
+/// These handlers and a bare one, behind the colon of its line.
+#[cycle(statement)]
+fn bare_handler(
+    alloc: Global,
+    brackets: usize,
+    nodes: u32,
+    line: u32,
+    mut handlers: Handlers,
+    cursor: &mut Cursor,
+) -> Result<Handlers, Refusal>
+    ensures { Gives (at_bare_handler brackets nodes line handlers cursor.old) result cursor.new }
+{
+    let body = block_of(alloc, brackets, nodes, cursor)?;
+    handlers.push_bare(line, body)?;
+    Ok(handlers)
+}
+
 /// The block behind `finally`, which there has to be if there is no handler.
 #[cycle(statement)]
 fn last(
@@ -295,7 +396,7 @@ fn last(
     is_needed: bool,
     cursor: &mut Cursor,
 ) -> Result<Block, Refusal>
-    ensures { Gives (read_last (block_at (read_expr brackets) nodes) is_needed cursor.old) result cursor.new }
+    ensures { Gives (at_last brackets nodes is_needed cursor.old) result cursor.new }
 {
     if cursor.take(Sign::Finally) {
         return body(alloc, brackets, nodes, cursor);
@@ -314,7 +415,7 @@ pub fn body(
     nodes: u32,
     cursor: &mut Cursor,
 ) -> Result<Block, Refusal>
-    ensures { Gives (body_at (read_expr brackets) nodes cursor.old) result cursor.new }
+    ensures { Gives (at_body brackets nodes cursor.old) result cursor.new }
 {
     cursor.expect(Sign::Colon)?;
     block_of(alloc, brackets, nodes, cursor)
@@ -328,15 +429,26 @@ fn block_of(
     nodes: u32,
     cursor: &mut Cursor,
 ) -> Result<Block, Refusal>
-    ensures { Gives (block_at (read_expr brackets) nodes cursor.old) result cursor.new }
+    ensures { Gives (at_block brackets nodes cursor.old) result cursor.new }
 {
-    let mut block = Block::new(alloc);
     if !cursor.take(Sign::Newline) {
-        let statement = simple_line(alloc, brackets, nodes, cursor)?;
-        block.push(statement)?;
-        return Ok(block);
+        return block_on_line(alloc, brackets, nodes, cursor);
     }
     cursor.expect(Sign::Indent)?;
+    statements(alloc, brackets, nodes, cursor)
+}
+
+/// Statements up to the end of their indentation.
+#[cycle(statement)]
+fn statements(
+    alloc: Global,
+    brackets: usize,
+    nodes: u32,
+    cursor: &mut Cursor,
+) -> Result<Block, Refusal>
+    ensures { Gives (statements_from brackets nodes [] (length cursor.old) cursor.old) result cursor.new }
+{
+    let mut block = Block::new(alloc);
     let turns = cursor.len();
     for _turn in 0..turns {
         let next = statement(alloc, brackets, nodes, cursor)?;

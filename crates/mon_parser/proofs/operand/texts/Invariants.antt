@@ -1,6 +1,6 @@
 use Rattle.std.proofs.Common.{◌≡◌, length}
 use Rattle.mon_parser.specs.Reader.{more_texts}
-use Rattle.mon_parser.proofs.expression.texts.Given as goal
+use Rattle.mon_parser.proofs.operand.texts.Given as goal
 
 abbrev pub decreases-loop-more : goal.decreases-loop-more
 decreases-loop-more l = length l.cursor
