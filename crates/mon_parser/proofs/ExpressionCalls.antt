@@ -193,11 +193,11 @@ right_side_is b n ts = refl
 by_text : (s : List ℕ) (ts : List Token) → (u : List ℕ) × (rest : List Token) × (more_texts s ts ≡ Some (u, rest))
 unfolding more_texts
 by_text s [] = (s, [], refl)
-by_text s (t ∷ ts) = by_kind (text_at t.kind) refl
+by_text s (t ∷ ts) = by_kind (text_at t.kind) refl (λ u. by_text (s ++ u) ts)
   where
-    by_kind : (o : Option (List ℕ)) → text_at t.kind ≡ o → (u : List ℕ) × (rest : List Token) × (more_texts s (t ∷ ts) ≡ Some (u, rest))
-    by_kind None e = (s, t ∷ ts, rw e refl)
-    by_kind (Some u) e = let x = by_text (s ++ u) ts in (x.0, x.1, rw e x.2)
+    by_kind : (o : Option (List ℕ)) → text_at t.kind ≡ o → ((u : List ℕ) → (v : List ℕ) × (rest : List Token) × (more_texts (s ++ u) ts ≡ Some (v, rest))) → (u : List ℕ) × (rest : List Token) × (more_texts s (t ∷ ts) ≡ Some (u, rest))
+    by_kind None e more = (s, t ∷ ts, rw e refl)
+    by_kind (Some u) e more = let x = more u in (x.0, x.1, rw e x.2)
 
 by_leaf : (group : Answer Expression) (one : Answer Single) (number : Answer ℤ) (word : Answer (List ℕ)) (read : Answer (List ℕ))
     → choose one (choose number (choose word (choose read group (λ s rest. then_read (more_texts s rest) (λ u left. Some (tree.Text u, left)))) (λ n rest. Some (tree.Name n, rest))) (λ z rest. Some (tree.Integer z, rest))) (λ s rest. Some (tree.Single s, rest))

@@ -43,14 +43,14 @@ left-loop-turn-init t c = level_is _ _ _ _ ∙ found _ c.in_ok-tree.ensures
 pub left-returns-in-None : goal.left-returns-in-None
 left-returns-in-None t c = c.loop-turn.invariant ∙ level_ended _ _ _ _ _ _ _ c.loop-turn-test.true c.in-None.ensures
 
-pub left-returns-in_err-right : goal.left-returns-in_err-right
-left-returns-in_err-right t c = refuses _ _ c.in_err-right.field-0.0 _ c.from_residual-in_err-right.ensures.1 (λ e. c.loop-turn.invariant ∙ level_missing _ _ _ _ _ _ _ _ c.loop-turn-test.true c.in-Some.ensures (c.in_err-right.ensures e))
+pub left-returns-in_err-right-in-Some : goal.left-returns-in_err-right-in-Some
+left-returns-in_err-right-in-Some t c = refuses _ _ c.in_err-right-in-Some.field-0.0 _ c.from_residual-in_err-right-in-Some.ensures.1 (λ e. c.loop-turn.invariant ∙ level_missing _ _ _ _ _ _ _ _ c.loop-turn-test.true c.in-Some.ensures (c.in_err-right-in-Some.ensures e))
 
-pub left-returns-in_err-joined : goal.left-returns-in_err-joined
-left-returns-in_err-joined t c = refuses _ _ c.in_err-joined.field-0.0 _ c.from_residual-in_err-joined.ensures.1 (λ e. c.loop-turn.invariant ∙ level_deep _ _ _ _ _ _ _ _ _ _ c.loop-turn-test.true c.in-Some.ensures c.in_ok-right.ensures (c.in_err-joined.ensures e))
+pub left-returns-in_err-tree-in-Some : goal.left-returns-in_err-tree-in-Some
+left-returns-in_err-tree-in-Some t c = refuses _ _ c.in_err-tree-in-Some.field-0.0 _ c.from_residual-in_err-tree-in-Some.ensures.1 (λ e. c.loop-turn.invariant ∙ level_deep _ _ _ _ _ _ _ _ _ _ c.loop-turn-test.true c.in-Some.ensures c.in_ok-right-in-Some.ensures (c.in_err-tree-in-Some.ensures e))
 
 pub left-loop-turn-preserved : goal.left-loop-turn-preserved
-left-loop-turn-preserved t c = c.loop-turn.invariant ∙ level_turned _ _ _ _ _ _ _ _ _ _ _ c.loop-turn-test.true c.in-Some.ensures c.in_ok-right.ensures c.in_ok-joined.ensures
+left-loop-turn-preserved t c = c.loop-turn.invariant ∙ level_turned _ _ _ _ _ _ _ _ _ _ _ c.loop-turn-test.true c.in-Some.ensures c.in_ok-right-in-Some.ensures c.in_ok-tree-in-Some.ensures
 
 pub left-returns : goal.left-returns
 left-returns t c = c.loop-turn.invariant ∙ level_ends _ _ _ _ _ _ (omega (arith, c.loop-turn-test.false))
@@ -101,10 +101,10 @@ pub comparison-returns-in_err-found : goal.comparison-returns-in_err-found
 comparison-returns-in_err-found t c = refuses _ _ c.in_err-found.field-0.0 _ c.from_residual-in_err-found.ensures.1 (λ e. comparison_goes _ _ _ _ _ _ c.in_ok-first.ensures c.if-take.ensures.other ∙ missed _ (c.in_err-found.ensures e))
 
 pub comparison-returns-in-None : goal.comparison-returns-in-None
-comparison-returns-in-None t c = comparison_goes _ _ _ _ _ _ c.in_ok-first.ensures c.if-take.ensures.other ∙ found _ c.in_ok-found.ensures ∙ ap (λ o. maybe_compared c.args.brackets c.args.nodes _ o _) c.in-None.is
+comparison-returns-in-None t c = comparison_goes _ _ _ _ _ _ c.in_ok-first.ensures c.if-take.ensures.other ∙ found _ c.in_ok-found.ensures ∙ ap (λ o. maybe_compared c.args.brackets c.args.nodes c.in_ok-first.first o c.comparison_operator.new.cursor) c.in-None.is
 
 pub comparison-returns-in-Some : goal.comparison-returns-in-Some
-comparison-returns-in-Some t c = gives_by _ _ _ _ (comparison_goes _ _ _ _ _ _ c.in_ok-first.ensures c.if-take.ensures.other ∙ found _ c.in_ok-found.ensures ∙ ap (λ o. maybe_compared c.args.brackets c.args.nodes _ o _) c.in-Some.is) c.compared.ensures
+comparison-returns-in-Some t c = gives_by _ _ _ _ (comparison_goes _ _ _ _ _ _ c.in_ok-first.ensures c.if-take.ensures.other ∙ found _ c.in_ok-found.ensures ∙ ap (λ o. maybe_compared c.args.brackets c.args.nodes c.in_ok-first.first o c.comparison_operator.new.cursor) c.in-Some.is) c.compared.ensures
 
 pub compared-returns-in_err-last : goal.compared-returns-in_err-last
 compared-returns-in_err-last t c = refuses _ _ c.in_err-last.field-0.0 _ c.from_residual.ensures.1 (λ e. compared_is _ _ _ _ _ ∙ missed _ (c.in_err-last.ensures e))
@@ -121,35 +121,35 @@ postfix-loop-turn-init t c = postfix_is _ _ _ ∙ found _ c.in_ok-tree.ensures
 pub postfix-returns-in-None : goal.postfix-returns-in-None
 postfix-returns-in-None t c = c.loop-turn.invariant ∙ suffixes_ended _ _ _ _ _ _ c.loop-turn-test.true c.in-None.ensures
 
-pub postfix-returns-in_err-suffix : goal.postfix-returns-in_err-suffix
-postfix-returns-in_err-suffix t c = refuses _ _ c.in_err-suffix.field-0.0 _ c.from_residual-in_err-suffix.ensures.1 (λ e. c.loop-turn.invariant ∙ suffixes_missing _ _ _ _ _ _ _ c.loop-turn-test.true c.in-Some.ensures (c.in_err-suffix.ensures e))
+pub postfix-returns-in_err-tree-in-Some : goal.postfix-returns-in_err-tree-in-Some
+postfix-returns-in_err-tree-in-Some t c = refuses _ _ c.in_err-tree-in-Some.field-0.0 _ c.from_residual-in_err-tree-in-Some.ensures.1 (λ e. c.loop-turn.invariant ∙ suffixes_missing _ _ _ _ _ _ _ c.loop-turn-test.true c.in-Some.ensures (c.in_err-tree-in-Some.ensures e))
 
 pub postfix-loop-turn-preserved : goal.postfix-loop-turn-preserved
-postfix-loop-turn-preserved t c = c.loop-turn.invariant ∙ suffixes_turned _ _ _ _ _ _ _ _ _ c.loop-turn-test.true c.in-Some.ensures c.in_ok-suffix.ensures
+postfix-loop-turn-preserved t c = c.loop-turn.invariant ∙ suffixes_turned _ _ _ _ _ _ _ _ _ c.loop-turn-test.true c.in-Some.ensures c.in_ok-tree-in-Some.ensures
 
 pub postfix-returns : goal.postfix-returns
 postfix-returns t c = c.loop-turn.invariant ∙ suffixes_end _ _ _ _ _ (omega (arith, c.loop-turn-test.false))
 
-pub suffix-returns-in_err-parts : goal.suffix-returns-in_err-parts
-suffix-returns-in_err-parts t c = refuses _ _ c.in_err-parts.field-0.0 _ c.from_residual.ensures.1 (λ e. ap (λ x. at_suffix c.args.brackets c.args.nodes x c.args.tree c.args.cursor.now) c.in-Call.is ∙ call_is _ _ _ _ ∙ missed _ (c.in_err-parts.ensures e))
+pub suffix-returns-in_err-parts-in-Call : goal.suffix-returns-in_err-parts-in-Call
+suffix-returns-in_err-parts-in-Call t c = refuses _ _ c.in_err-parts-in-Call.field-0.0 _ c.from_residual.ensures.1 (λ e. ap (λ x. at_suffix c.args.brackets c.args.nodes x c.args.tree c.args.cursor.now) c.in-Call.is ∙ call_is _ _ _ _ ∙ missed _ (c.in_err-parts-in-Call.ensures e))
 
-pub suffix-returns-in_ok-parts : goal.suffix-returns-in_ok-parts
-suffix-returns-in_ok-parts t c = gives_by _ _ _ _ (ap (λ x. at_suffix c.args.brackets c.args.nodes x c.args.tree c.args.cursor.now) c.in-Call.is ∙ call_is _ _ _ _ ∙ found _ c.in_ok-parts.ensures) c.end_call.ensures
+pub suffix-returns-in_ok-parts-in-Call : goal.suffix-returns-in_ok-parts-in-Call
+suffix-returns-in_ok-parts-in-Call t c = gives_by _ _ _ _ (ap (λ x. at_suffix c.args.brackets c.args.nodes x c.args.tree c.args.cursor.now) c.in-Call.is ∙ call_is _ _ _ _ ∙ found _ c.in_ok-parts-in-Call.ensures) c.end_call.ensures
 
-pub suffix-returns-in_err-index : goal.suffix-returns-in_err-index
-suffix-returns-in_err-index t c = refuses _ _ c.in_err-index.field-0.0 _ c.from_residual-in_err-index.ensures.1 (λ e. ap (λ x. at_suffix c.args.brackets c.args.nodes x c.args.tree c.args.cursor.now) c.in-Subscript.is ∙ subscript_is _ _ _ _ ∙ missed _ (c.in_err-index.ensures e))
+pub suffix-returns-in_err-index-in-Subscript : goal.suffix-returns-in_err-index-in-Subscript
+suffix-returns-in_err-index-in-Subscript t c = refuses _ _ c.in_err-index-in-Subscript.field-0.0 _ c.from_residual-in_err-index-in-Subscript.ensures.1 (λ e. ap (λ x. at_suffix c.args.brackets c.args.nodes x c.args.tree c.args.cursor.now) c.in-Subscript.is ∙ subscript_is _ _ _ _ ∙ missed _ (c.in_err-index-in-Subscript.ensures e))
 
-pub suffix-returns-in_ok-index : goal.suffix-returns-in_ok-index
-suffix-returns-in_ok-index t c = gives_by _ _ _ _ (ap (λ x. at_suffix c.args.brackets c.args.nodes x c.args.tree c.args.cursor.now) c.in-Subscript.is ∙ subscript_is _ _ _ _ ∙ found _ c.in_ok-index.ensures) c.end_subscript.ensures
+pub suffix-returns-in_ok-index-in-Subscript : goal.suffix-returns-in_ok-index-in-Subscript
+suffix-returns-in_ok-index-in-Subscript t c = gives_by _ _ _ _ (ap (λ x. at_suffix c.args.brackets c.args.nodes x c.args.tree c.args.cursor.now) c.in-Subscript.is ∙ subscript_is _ _ _ _ ∙ found _ c.in_ok-index-in-Subscript.ensures) c.end_subscript.ensures
 
-pub suffix-returns-in_err-method : goal.suffix-returns-in_err-method
-suffix-returns-in_err-method t c = refuses _ _ c.in_err-method.field-0.0 _ c.from_residual-in_err-method.ensures.1 (λ e. ap (λ x. at_suffix c.args.brackets c.args.nodes x c.args.tree c.args.cursor.now) c.in-Ask.is ∙ ask_is _ _ _ _ ∙ missed _ (c.in_err-method.ensures e))
+pub suffix-returns-in_err-method-in-Ask : goal.suffix-returns-in_err-method-in-Ask
+suffix-returns-in_err-method-in-Ask t c = refuses _ _ c.in_err-method-in-Ask.field-0.0 _ c.from_residual-in_err-method-in-Ask.ensures.1 (λ e. ap (λ x. at_suffix c.args.brackets c.args.nodes x c.args.tree c.args.cursor.now) c.in-Ask.is ∙ ask_is _ _ _ _ ∙ missed _ (c.in_err-method-in-Ask.ensures e))
 
-pub suffix-returns-in_err-parts-2 : goal.suffix-returns-in_err-parts-2
-suffix-returns-in_err-parts-2 t c = refuses _ _ c.in_err-parts-2.field-0.0 _ c.from_residual-in_err-parts-2.ensures.1 (λ e. ap (λ x. at_suffix c.args.brackets c.args.nodes x c.args.tree c.args.cursor.now) c.in-Ask.is ∙ ask_is _ _ _ _ ∙ found _ c.in_ok-method.ensures ∙ missed _ (c.in_err-parts-2.ensures e))
+pub suffix-returns-in_err-parts-in-Ask : goal.suffix-returns-in_err-parts-in-Ask
+suffix-returns-in_err-parts-in-Ask t c = refuses _ _ c.in_err-parts-in-Ask.field-0.0 _ c.from_residual-in_err-parts-in-Ask.ensures.1 (λ e. ap (λ x. at_suffix c.args.brackets c.args.nodes x c.args.tree c.args.cursor.now) c.in-Ask.is ∙ ask_is _ _ _ _ ∙ found _ c.in_ok-method-in-Ask.ensures ∙ missed _ (c.in_err-parts-in-Ask.ensures e))
 
-pub suffix-returns-in_ok-parts-2 : goal.suffix-returns-in_ok-parts-2
-suffix-returns-in_ok-parts-2 t c = gives_by _ _ _ _ (ap (λ x. at_suffix c.args.brackets c.args.nodes x c.args.tree c.args.cursor.now) c.in-Ask.is ∙ ask_is _ _ _ _ ∙ found _ c.in_ok-method.ensures ∙ found _ c.in_ok-parts-2.ensures) c.end_ask.ensures
+pub suffix-returns-in_ok-parts-in-Ask : goal.suffix-returns-in_ok-parts-in-Ask
+suffix-returns-in_ok-parts-in-Ask t c = gives_by _ _ _ _ (ap (λ x. at_suffix c.args.brackets c.args.nodes x c.args.tree c.args.cursor.now) c.in-Ask.is ∙ ask_is _ _ _ _ ∙ found _ c.in_ok-method-in-Ask.ensures ∙ found _ c.in_ok-parts-in-Ask.ensures) c.end_ask.ensures
 
 pub arguments-returns-then-not-starts : goal.arguments-returns-then-not-starts
 arguments-returns-then-not-starts t c =
@@ -217,24 +217,24 @@ right_side-leaf-requires t c = depth_yield_none _
 
 pub right_side-returns-then-not-starts : goal.right_side-returns-then-not-starts
 right_side-returns-then-not-starts t c =
-    let none : starts c.take_yield.new.cursor ≡ false = cc in
-    right_side_is _ _ _ ∙ taken _ _ c.in-Some.ensures ∙ unpicked _ _ none ∙ ap (λ x. Some (x, c.take_yield.new.cursor)) (sym c.leaf.ensures)
+    let none : starts c.take_yield.new.self ≡ false = cc in
+    right_side_is _ _ _ ∙ taken _ _ c.in-Some.ensures ∙ unpicked _ _ none ∙ ap (λ x. Some (x, c.take_yield.new.self)) (sym c.leaf.ensures)
 
-pub right_side-returns-in_err-value : goal.right_side-returns-in_err-value
-right_side-returns-in_err-value t c =
-    let some : starts c.take_yield.new.cursor ≡ true = cc in
-    refuses _ _ c.in_err-value.field-0.0 _ c.from_residual.ensures.1 (λ e. right_side_is _ _ _ ∙ taken _ _ c.in-Some.ensures ∙ picked _ _ some ∙ missed _ (c.in_err-value.ensures e))
+pub right_side-returns-in_err-value-in-Some : goal.right_side-returns-in_err-value-in-Some
+right_side-returns-in_err-value-in-Some t c =
+    let some : starts c.take_yield.new.self ≡ true = cc in
+    refuses _ _ c.in_err-value-in-Some.field-0.0 _ c.from_residual.ensures.1 (λ e. right_side_is _ _ _ ∙ taken _ _ c.in-Some.ensures ∙ picked _ _ some ∙ missed _ (c.in_err-value-in-Some.ensures e))
 
-pub right_side-returns-in_ok-value : goal.right_side-returns-in_ok-value
-right_side-returns-in_ok-value t c =
-    let some : starts c.take_yield.new.cursor ≡ true = cc in
-    gives_made expr_depth (node.Yield _ (Some _)) _ _ _ (right_side_is _ _ _ ∙ taken _ _ c.in-Some.ensures ∙ picked _ _ some ∙ found _ c.in_ok-value.ensures) c.yielded.ensures
+pub right_side-returns-in_ok-value-in-Some : goal.right_side-returns-in_ok-value-in-Some
+right_side-returns-in_ok-value-in-Some t c =
+    let some : starts c.take_yield.new.self ≡ true = cc in
+    gives_made expr_depth (node.Yield _ (Some _)) _ _ _ (right_side_is _ _ _ ∙ taken _ _ c.in-Some.ensures ∙ picked _ _ some ∙ found _ c.in_ok-value-in-Some.ensures) c.yielded.ensures
 
 pub atom-returns-in_err-found : goal.atom-returns-in_err-found
 atom-returns-in_err-found t c = runs_out _ _ _ (memory_only _ _ c.from_residual.ensures.1 c.in_err-found.ensures)
 
 pub atom-returns-in-Some : goal.atom-returns-in-Some
-atom-returns-in-Some t c = atom_leaf _ _ _ _ _ (leaf_some _ _ _ _ _ c.in-Some.is c.in_ok-found.ensures)
+atom-returns-in-Some t c = atom_leaf _ _ _ _ _ (leaf_some _ _ _ _ c.in-Some.is c.in_ok-found.ensures)
 
 pub atom-returns-in_err-expect : goal.atom-returns-in_err-expect
 atom-returns-in_err-expect t c = refuses _ _ c.in_err-expect.field-0.0 _ c.from_residual-in_err-expect.ensures.1 (λ e. atom_group _ _ _ _ (leaf_no _ _ _ c.in_default.is c.in_ok-found.ensures) ∙ missed _ (c.in_err-expect.ensures e))
@@ -243,7 +243,7 @@ pub atom-returns : goal.atom-returns
 atom-returns t c = gives_by _ _ _ _ (atom_group _ _ _ _ (leaf_no _ _ _ c.in_default.is c.in_ok-found.ensures) ∙ found _ c.in_ok-expect.ensures) c.group.ensures
 
 pub group-returns-then-take : goal.group-returns-then-take
-group-returns-then-take t c = group_is _ _ _ ∙ taken _ _ c.if-take.ensures.taken ∙ ap (λ x. Some (x, c.take.new.cursor)) (sym c.leaf.ensures)
+group-returns-then-take t c = group_is _ _ _ ∙ taken _ _ c.if-take.ensures.taken ∙ ap (λ x. Some (x, c.take.new.self)) (sym c.leaf.ensures)
 
 pub group-returns-in_err-tree : goal.group-returns-in_err-tree
 group-returns-in_err-tree t c = refuses _ _ c.in_err-tree.field-0.0 _ c.from_residual.ensures.1 (λ e. group_goes _ _ _ _ c.if-take.ensures.other ∙ missed _ (c.in_err-tree.ensures e))

@@ -13,16 +13,16 @@ pub statement-returns-then-nodes-eq0 : goal.statement-returns-then-nodes-eq0
 statement-returns-then-nodes-eq0 t c = λ e. statement_none _ _ _ c.if-nodes-eq0.true
 
 pub statement-returns-then-take : goal.statement-returns-then-take
-statement-returns-then-take t c = gives_by _ _ _ _ (statement_is c.args.brackets c.args.nodes c.args.cursor.now (omega arith) ∙ taken _ _ c.if-take.ensures.taken ∙ ap (λ l. at_branch c.args.brackets (c.args.nodes - 1) l c.take.new.cursor) (sym c.line.ensures)) c.branch.ensures
+statement-returns-then-take t c = gives_by _ _ _ _ (statement_is c.args.brackets c.args.nodes c.args.cursor.now (omega arith) ∙ taken _ _ c.if-take.ensures.taken ∙ ap (λ l. at_branch c.args.brackets (c.args.nodes - 1) l c.take.new.self) (sym c.line-line.ensures)) c.branch.ensures
 
 pub statement-returns-then-take-2 : goal.statement-returns-then-take-2
-statement-returns-then-take-2 t c = gives_by _ _ _ _ (statement_is c.args.brackets c.args.nodes c.args.cursor.now (omega arith) ∙ passed _ _ c.if-take.ensures.other.0 ∙ taken _ _ (after _ _ c.if-take.ensures.other c.if-take-2.ensures.taken) ∙ ap (λ l. at_while c.args.brackets (c.args.nodes - 1) l c.take-2.new.cursor) (sym c.line.ensures)) c.while_loop.ensures
+statement-returns-then-take-2 t c = gives_by _ _ _ _ (statement_is c.args.brackets c.args.nodes c.args.cursor.now (omega arith) ∙ passed _ _ c.if-take.ensures.other.0 ∙ taken _ _ (after _ _ c.if-take.ensures.other c.if-take-2.ensures.taken) ∙ ap (λ l. at_while c.args.brackets (c.args.nodes - 1) l c.take-2.new.self) (sym c.line-line.ensures)) c.while_loop.ensures
 
 pub statement-returns-then-take-3 : goal.statement-returns-then-take-3
-statement-returns-then-take-3 t c = gives_by _ _ _ _ (statement_is c.args.brackets c.args.nodes c.args.cursor.now (omega arith) ∙ passed _ _ c.if-take.ensures.other.0 ∙ passed _ _ (after _ _ c.if-take.ensures.other c.if-take-2.ensures.other.0) ∙ taken _ _ (after _ _ c.if-take.ensures.other (after _ _ c.if-take-2.ensures.other c.if-take-3.ensures.taken)) ∙ ap (λ l. at_for c.args.brackets (c.args.nodes - 1) l c.take-3.new.cursor) (sym c.line.ensures)) c.for_loop.ensures
+statement-returns-then-take-3 t c = gives_by _ _ _ _ (statement_is c.args.brackets c.args.nodes c.args.cursor.now (omega arith) ∙ passed _ _ c.if-take.ensures.other.0 ∙ passed _ _ (after _ _ c.if-take.ensures.other c.if-take-2.ensures.other.0) ∙ taken _ _ (after _ _ c.if-take.ensures.other (after _ _ c.if-take-2.ensures.other c.if-take-3.ensures.taken)) ∙ ap (λ l. at_for c.args.brackets (c.args.nodes - 1) l c.take-3.new.self) (sym c.line-line.ensures)) c.for_loop.ensures
 
 pub statement-returns-then-take-4 : goal.statement-returns-then-take-4
-statement-returns-then-take-4 t c = gives_by _ _ _ _ (statement_is c.args.brackets c.args.nodes c.args.cursor.now (omega arith) ∙ passed _ _ c.if-take.ensures.other.0 ∙ passed _ _ (after _ _ c.if-take.ensures.other c.if-take-2.ensures.other.0) ∙ passed _ _ (after _ _ c.if-take.ensures.other (after _ _ c.if-take-2.ensures.other c.if-take-3.ensures.other.0)) ∙ taken _ _ (after _ _ c.if-take.ensures.other (after _ _ c.if-take-2.ensures.other (after _ _ c.if-take-3.ensures.other c.if-take-4.ensures.taken))) ∙ ap (λ l. at_try c.args.brackets (c.args.nodes - 1) l c.take-4.new.cursor) (sym c.line.ensures)) c.try_block.ensures
+statement-returns-then-take-4 t c = gives_by _ _ _ _ (statement_is c.args.brackets c.args.nodes c.args.cursor.now (omega arith) ∙ passed _ _ c.if-take.ensures.other.0 ∙ passed _ _ (after _ _ c.if-take.ensures.other c.if-take-2.ensures.other.0) ∙ passed _ _ (after _ _ c.if-take.ensures.other (after _ _ c.if-take-2.ensures.other c.if-take-3.ensures.other.0)) ∙ taken _ _ (after _ _ c.if-take.ensures.other (after _ _ c.if-take-2.ensures.other (after _ _ c.if-take-3.ensures.other c.if-take-4.ensures.taken))) ∙ ap (λ l. at_try c.args.brackets (c.args.nodes - 1) l c.take-4.new.self) (sym c.line-line.ensures)) c.try_block.ensures
 
 pub statement-returns : goal.statement-returns
 statement-returns t c = gives_by _ _ _ _ (statement_is c.args.brackets c.args.nodes c.args.cursor.now (omega arith) ∙ passed _ _ c.if-take.ensures.other.0 ∙ passed _ _ (after _ _ c.if-take.ensures.other c.if-take-2.ensures.other.0) ∙ passed _ _ (after _ _ c.if-take.ensures.other (after _ _ c.if-take-2.ensures.other c.if-take-3.ensures.other.0)) ∙ passed _ _ (after _ _ c.if-take.ensures.other (after _ _ c.if-take-2.ensures.other (after _ _ c.if-take-3.ensures.other c.if-take-4.ensures.other.0))) ∙ ap (λ w. at_line c.args.brackets c.args.nodes w) (sym (c.if-take-4.ensures.other.1 ∙ c.if-take-3.ensures.other.1 ∙ c.if-take-2.ensures.other.1 ∙ c.if-take.ensures.other.1))) c.simple_line.ensures
@@ -76,13 +76,13 @@ pub try_block-returns : goal.try_block-returns
 try_block-returns t c = gives_made stmt_depth (compound.Try _ _ _ _) _ _ _ (try_is _ _ _ _ ∙ found _ c.in_ok-body.ensures ∙ found _ c.in_ok-handlers.ensures ∙ ap (λ r. then_read (at_last c.args.brackets c.args.nodes r c.handlers.new.cursor) (λ last end. within stmt_depth (compound.Try _ _ _ last) end)) (sym c.is_empty.ensures) ∙ found _ c.in_ok-last.ensures) c.try_block.ensures
 
 pub other-returns-then-take : goal.other-returns-then-take
-other-returns-then-take t c = gives_by _ _ _ _ (other_is _ _ _ ∙ taken _ _ c.if-take.ensures.taken ∙ ap (λ l. at_elif c.args.brackets c.args.nodes l c.take.new.cursor) (sym c.line.ensures)) c.elif.ensures
+other-returns-then-take t c = gives_by _ _ _ _ (other_is _ _ _ ∙ taken _ _ c.if-take.ensures.taken ∙ ap (λ l. at_elif c.args.brackets c.args.nodes l c.take.new.self) (sym c.line-line.ensures)) c.elif.ensures
 
 pub other-returns-then-take-2 : goal.other-returns-then-take-2
 other-returns-then-take-2 t c = gives_by _ _ _ _ (other_is _ _ _ ∙ passed _ _ c.if-take.ensures.other.0 ∙ taken _ _ (after _ _ c.if-take.ensures.other c.if-take-2.ensures.taken)) c.body.ensures
 
 pub other-returns : goal.other-returns
-other-returns t c = other_is _ _ _ ∙ passed _ _ c.if-take.ensures.other.0 ∙ passed _ _ (after _ _ c.if-take.ensures.other c.if-take-2.ensures.other.0) ∙ ap (λ w. Some ([], w)) (sym (c.if-take-2.ensures.other.1 ∙ c.if-take.ensures.other.1)) ∙ ap (λ b. Some (b, c.take-2.new.cursor)) (sym c.new.ensures)
+other-returns t c = other_is _ _ _ ∙ passed _ _ c.if-take.ensures.other.0 ∙ passed _ _ (after _ _ c.if-take.ensures.other c.if-take-2.ensures.other.0) ∙ ap (λ w. Some ([], w)) (sym (c.if-take-2.ensures.other.1 ∙ c.if-take.ensures.other.1)) ∙ ap (λ b. Some (b, c.take-2.new.self)) (sym c.new.ensures)
 
 pub elif-returns-then-nodes-eq0 : goal.elif-returns-then-nodes-eq0
 elif-returns-then-nodes-eq0 t c = λ e. elif_none _ _ _ _ c.if-nodes-eq0.true
@@ -103,13 +103,13 @@ pub handlers-returns-then-not-take : goal.handlers-returns-then-not-take
 handlers-returns-then-not-take t c = ap (λ n. handlers_from c.args.brackets c.args.nodes [] n c.args.cursor.now) (sym c.len-turns.ensures) ∙ c.loop-turn.invariant ∙ handlers_go _ _ _ _ _ _ c.loop-turn-test.true ∙ passed _ _ c.if-not-take.ensures.other.0 ∙ ap (λ w. Some (c.loop-turn.handlers, w)) (sym c.if-not-take.ensures.other.1)
 
 pub handlers-returns-then-take : goal.handlers-returns-then-take
-handlers-returns-then-take t c = gives_by _ _ _ _ (ap (λ n. handlers_from c.args.brackets c.args.nodes [] n c.args.cursor.now) (sym c.len-turns.ensures) ∙ c.loop-turn.invariant ∙ handlers_go _ _ _ _ _ _ c.loop-turn-test.true ∙ taken _ _ c.if-not-take.ensures.taken ∙ taken _ _ c.if-take.ensures.taken ∙ ap (λ l. at_bare_handler c.args.brackets c.args.nodes l c.loop-turn.handlers c.take-2.new.cursor) (sym c.line.ensures)) c.bare_handler.ensures
+handlers-returns-then-take t c = gives_by _ _ _ _ (ap (λ n. handlers_from c.args.brackets c.args.nodes [] n c.args.cursor.now) (sym c.len-turns.ensures) ∙ c.loop-turn.invariant ∙ handlers_go _ _ _ _ _ _ c.loop-turn-test.true ∙ taken _ _ c.if-not-take.ensures.taken ∙ taken _ _ c.if-take.ensures.taken ∙ ap (λ l. at_bare_handler c.args.brackets c.args.nodes l c.loop-turn.handlers c.take-2.new.self) (sym c.line-line.ensures)) c.bare_handler.ensures
 
-pub handlers-returns-in_err-handler : goal.handlers-returns-in_err-handler
-handlers-returns-in_err-handler t c = refuses _ _ c.in_err-handler.field-0.0 _ c.from_residual.ensures.1 (λ e. ap (λ n. handlers_from c.args.brackets c.args.nodes [] n c.args.cursor.now) (sym c.len-turns.ensures) ∙ c.loop-turn.invariant ∙ handlers_named _ _ _ _ _ _ _ _ _ _ c.loop-turn-test.true c.line.ensures c.if-not-take.ensures.taken c.if-take.ensures.other ∙ missed _ (c.in_err-handler.ensures e))
+pub handlers-returns-in_err-handlers : goal.handlers-returns-in_err-handlers
+handlers-returns-in_err-handlers t c = refuses _ _ c.in_err-handlers.field-0.0 _ c.from_residual.ensures.1 (λ e. ap (λ n. handlers_from c.args.brackets c.args.nodes [] n c.args.cursor.now) (sym c.len-turns.ensures) ∙ c.loop-turn.invariant ∙ handlers_named _ _ _ _ _ _ _ _ _ _ c.loop-turn-test.true c.line-line.ensures c.if-not-take.ensures.taken c.if-take.ensures.other ∙ missed _ (c.in_err-handlers.ensures e))
 
 pub handlers-loop-turn-preserved : goal.handlers-loop-turn-preserved
-handlers-loop-turn-preserved t c = c.loop-turn.invariant ∙ handlers_named _ _ _ _ _ _ _ _ _ _ c.loop-turn-test.true c.line.ensures c.if-not-take.ensures.taken c.if-take.ensures.other ∙ found _ c.in_ok-handler.ensures
+handlers-loop-turn-preserved t c = c.loop-turn.invariant ∙ handlers_named _ _ _ _ _ _ _ _ _ _ c.loop-turn-test.true c.line-line.ensures c.if-not-take.ensures.taken c.if-take.ensures.other ∙ found _ c.in_ok-handlers.ensures
 
 pub handlers-returns : goal.handlers-returns
 handlers-returns t c = ap (λ n. handlers_from c.args.brackets c.args.nodes [] n c.args.cursor.now) (sym c.len-turns.ensures) ∙ c.loop-turn.invariant ∙ handlers_end _ _ _ _ _ _ (omega (arith, c.loop-turn-test.false))
@@ -145,7 +145,7 @@ pub last-returns-then-is_needed : goal.last-returns-then-is_needed
 last-returns-then-is_needed t c = λ e. last_is _ _ _ _ ∙ passed _ _ c.if-take.ensures.other.0 ∙ picked _ _ c.if-is_needed.true
 
 pub last-returns : goal.last-returns
-last-returns t c = last_is _ _ _ _ ∙ passed _ _ c.if-take.ensures.other.0 ∙ unpicked _ _ c.if-is_needed.false ∙ ap (λ w. Some ([], w)) (sym c.if-take.ensures.other.1) ∙ ap (λ b. Some (b, c.take.new.cursor)) (sym c.new.ensures)
+last-returns t c = last_is _ _ _ _ ∙ passed _ _ c.if-take.ensures.other.0 ∙ unpicked _ _ c.if-is_needed.false ∙ ap (λ w. Some ([], w)) (sym c.if-take.ensures.other.1) ∙ ap (λ b. Some (b, c.take.new.self)) (sym c.new.ensures)
 
 pub body-returns-in_err-expect : goal.body-returns-in_err-expect
 body-returns-in_err-expect t c = refuses _ _ c.in_err-expect.field-0.0 _ c.from_residual.ensures.1 (λ e. body_is _ _ _ ∙ missed _ (c.in_err-expect.ensures e))
@@ -172,10 +172,10 @@ pub statements-returns-in_err-push : goal.statements-returns-in_err-push
 statements-returns-in_err-push t c = runs_out _ _ _ c.from_residual-in_err-push.ensures.1
 
 pub statements-returns-then-take : goal.statements-returns-then-take
-statements-returns-then-take t c = ap (λ n. statements_from c.args.brackets c.args.nodes [] n c.args.cursor.now) (sym c.len-turns.ensures) ∙ c.loop-turn.invariant ∙ statements_go _ _ _ _ _ _ c.loop-turn-test.true ∙ found _ c.in_ok-next.ensures ∙ taken _ _ c.if-take.ensures.taken ∙ ap (λ w. Some (w, c.take.new.cursor)) (sym c.in_ok-push.ensures)
+statements-returns-then-take t c = ap (λ n. statements_from c.args.brackets c.args.nodes [] n c.args.cursor.now) (sym c.len-turns.ensures) ∙ c.loop-turn.invariant ∙ statements_go _ _ _ _ _ _ c.loop-turn-test.true ∙ found _ c.in_ok-next.ensures ∙ taken _ _ c.if-take.ensures.taken ∙ ap (λ w. Some (w, c.take.new.self)) (sym c.in_ok-push.ensures)
 
 pub statements-loop-turn-preserved : goal.statements-loop-turn-preserved
-statements-loop-turn-preserved t c = c.loop-turn.invariant ∙ statements_go _ _ _ _ _ _ c.loop-turn-test.true ∙ found _ c.in_ok-next.ensures ∙ passed _ _ c.if-take.ensures.other.0 ∙ ap (λ w. statements_from c.args.brackets c.args.nodes w (c.len-turns.turns - (c.loop-turn._turn + 1)) c.statement.new.cursor) (sym c.in_ok-push.ensures) ∙ ap (λ w. statements_from c.args.brackets c.args.nodes _ _ w) (sym c.if-take.ensures.other.1)
+statements-loop-turn-preserved t c = c.loop-turn.invariant ∙ statements_go _ _ _ _ _ _ c.loop-turn-test.true ∙ found _ c.in_ok-next.ensures ∙ passed _ _ c.if-take.ensures.other.0 ∙ ap (λ w. statements_from c.args.brackets c.args.nodes w (c.len-turns.result - (c.loop-turn._turn + 1)) c.statement.new.cursor) (sym c.in_ok-push.ensures) ∙ ap (λ w. statements_from c.args.brackets c.args.nodes _ _ w) (sym c.if-take.ensures.other.1)
 
 pub statements-returns : goal.statements-returns
 statements-returns t c = λ e. ap (λ n. statements_from c.args.brackets c.args.nodes [] n c.args.cursor.now) (sym c.len-turns.ensures) ∙ c.loop-turn.invariant ∙ statements_end _ _ _ _ _ _ (omega (arith, c.loop-turn-test.false))
