@@ -14,13 +14,13 @@ use Rattle.mon_parser.specs.declared.tree.Handler.{Handler}
 use Rattle.mon_parser.specs.Tokens.{first_line, single_of, augmented_op}
 use Rattle.mon_parser.specs.Depth.{stmt_depth, const_depth}
 use Rattle.mon_parser.specs.Grammar.{handler}
-use Rattle.mon_parser.specs.Reader.{Answer, Reader, then_read, choose, pick, next_at, mark_at, name_at, number_at, text_at, within, more_texts, more_items, is_comma, read_expr}
+use Rattle.mon_parser.specs.Reader.{Answer, Reader, then_read, choose, pick, next_at, mark_at, name_at, number_at, text_at, within, more_texts, more_items, is_comma, starts, read_expr}
 use Rattle.mon_parser.specs.Statements.{starts_name, maybe, read_targets, read_parameters, read_simple, read_line, read_statement, read_statements, read_body, read_as, read_handlers, read_constant, read_constants, starts_constant, block_at, is_none}
 use Rattle.mon_parser.proofs.Steps.{items_last, items_none, items_ended, items_missing, items_more, from_start}
-use Rattle.mon_parser.proofs.Calls.{found, taken, passed, picked}
+use Rattle.mon_parser.proofs.Calls.{found, taken, passed, picked, unpicked}
 use Rattle.mon_parser.specs.Code.{with_front}
 use Rattle.mon_parser.specs.Readings.{at_expressions, at_right_side}
-use Rattle.mon_parser.specs.StatementReadings.{at_simple, at_assignment_or_value, at_augmented, at_assignment, at_line, at_statement, at_branch, at_while, at_for, at_try, at_other, at_elif, handlers_from, at_handler, at_bare_handler, statements_from, at_last, at_body, at_block, block_line, names_from}
+use Rattle.mon_parser.specs.StatementReadings.{at_simple, at_returned, at_raised, at_assignment_or_value, at_augmented, at_assignment, at_line, at_statement, at_branch, at_while, at_for, at_try, at_other, at_elif, handlers_from, at_handler, at_bare_handler, statements_from, at_last, at_body, at_block, block_line, names_from}
 
 -- what follows a choice, or two parts, follows each way
 pub choose_then : {A B C : Type 0} (read : Answer A) (other : Answer B) (go : A → List Token → Answer B) (next : B → List Token → Answer C) → then_read (choose read other go) next ≡ choose read (then_read other next) (λ a rest. then_read (go a rest) next)
@@ -50,13 +50,29 @@ pub simple_is : (b n : ℕ) (ts : List Token) → at_simple b n ts ≡
     (choose (next_at (mark_at sign.Return) ts)
     (choose (next_at (mark_at sign.Raise) ts)
     (at_assignment_or_value b n ts)
-    (λ is rest. then_read (maybe (read_expr b n) rest) (λ value left. Some (simple.Raise value, left))))
-    (λ is rest. then_read (maybe (at_expressions b n) rest) (λ value left. Some (simple.Return value, left))))
+    (λ is rest. at_raised b n rest))
+    (λ is rest. at_returned b n rest))
     (λ is rest. Some (simple.Continue, rest)))
     (λ is rest. Some (simple.Break, rest)))
     (λ is rest. Some (simple.Pass, rest))
-unfolding at_simple at_assignment_or_value at_expressions
+unfolding at_simple at_assignment_or_value at_returned at_raised
 simple_is b n ts = refl
+
+pub returned_none : (b n : ℕ) (ts : List Token) → starts ts ≡ false → at_returned b n ts ≡ Some (simple.Return None, ts)
+unfolding at_returned
+returned_none b n ts s = ap (λ w. then_read w (λ value rest. Some (simple.Return value, rest))) (unpicked _ _ s) ∙ then_found _ _ _
+
+pub returned_is : (b n : ℕ) (ts : List Token) → starts ts ≡ true → at_returned b n ts ≡ then_read (at_expressions b n ts) (λ e rest. Some (simple.Return (Some e), rest))
+unfolding at_returned at_expressions
+returned_is b n ts s = ap (λ w. then_read w (λ value rest. Some (simple.Return value, rest))) (picked _ _ s) ∙ then_then _ _ _ ∙ simp then_found
+
+pub raised_none : (b n : ℕ) (ts : List Token) → starts ts ≡ false → at_raised b n ts ≡ Some (simple.Raise None, ts)
+unfolding at_raised
+raised_none b n ts s = ap (λ w. then_read w (λ value rest. Some (simple.Raise value, rest))) (unpicked _ _ s) ∙ then_found _ _ _
+
+pub raised_is : (b n : ℕ) (ts : List Token) → starts ts ≡ true → at_raised b n ts ≡ then_read (read_expr b n ts) (λ e rest. Some (simple.Raise (Some e), rest))
+unfolding at_raised
+raised_is b n ts s = ap (λ w. then_read w (λ value rest. Some (simple.Raise value, rest))) (picked _ _ s) ∙ then_then _ _ _ ∙ simp then_found
 
 pub assignment_or_value_is : (b n : ℕ) (ts : List Token) → at_assignment_or_value b n ts ≡ then_read (at_right_side b n ts) (λ e rest.
     choose (next_at augmented_op rest)

@@ -2,15 +2,22 @@
 use Rattle.std.specs.Prelude.{ℕ, List, [], ◌∷◌, ◌++◌, Some, None, Bool}
 use Rattle.mon_lexer.specs.declared.token.Token.{Token}
 use Rattle.mon_parser.specs.declared.tree.Simple.{Simple}
+use Rattle.mon_parser.specs.declared.tree.Simple.TheVariants as simple
 use Rattle.mon_parser.specs.declared.tree.Statement.{Statement}
 use Rattle.mon_parser.specs.declared.tree.Handler.{Handler}
 use Rattle.mon_parser.specs.Grammar.{handler}
 use Rattle.mon_parser.specs.Code.{with_front}
-use Rattle.mon_parser.specs.Reader.{Reader, then_read, next_at, name_at, more_items, read_expr}
-use Rattle.mon_parser.specs.Statements.{starts_name, read_simple, read_right, read_augmented, read_assignment, read_line, read_statement, read_statements, read_handlers, read_last, read_if, read_while, read_for, read_try, read_as, block_at, body_at, else_at}
+use Rattle.mon_parser.specs.Reader.{Reader, then_read, next_at, name_at, more_items, read_expr, read_tuple}
+use Rattle.mon_parser.specs.Statements.{maybe, starts_name, read_simple, read_right, read_augmented, read_assignment, read_line, read_statement, read_statements, read_handlers, read_last, read_if, read_while, read_for, read_try, read_as, block_at, body_at, else_at}
 
 unfoldable pub at_simple : ℕ → ℕ → Reader Simple
 at_simple b n = read_simple (read_expr b n)
+
+unfoldable pub at_returned : ℕ → ℕ → Reader Simple
+at_returned b n ts = then_read (maybe (read_tuple (read_expr b n)) ts) (λ value rest. Some (simple.Return value, rest))
+
+unfoldable pub at_raised : ℕ → ℕ → Reader Simple
+at_raised b n ts = then_read (maybe (read_expr b n) ts) (λ value rest. Some (simple.Raise value, rest))
 
 unfoldable pub at_assignment_or_value : ℕ → ℕ → Reader Simple
 at_assignment_or_value b n = read_right (read_expr b n)

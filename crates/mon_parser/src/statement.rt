@@ -3,7 +3,7 @@
 ghost use Rattle.std.specs.Prelude.{[], length};
 ghost use Rattle.mon_parser.specs.Code.{Gives};
 ghost use Rattle.mon_parser.specs.Statements.{read_targets, read_parameters, read_as};
-ghost use Rattle.mon_parser.specs.StatementReadings.{at_simple, at_assignment_or_value, at_augmented, at_assignment, at_line, at_statement, at_branch, at_while, at_for, at_try, at_other, at_elif, handlers_from, at_handler, at_bare_handler, at_last, at_body, at_block, block_line, statements_from, names_from};
+ghost use Rattle.mon_parser.specs.StatementReadings.{at_simple, at_returned, at_raised, at_assignment_or_value, at_augmented, at_assignment, at_line, at_statement, at_branch, at_while, at_for, at_try, at_other, at_elif, handlers_from, at_handler, at_bare_handler, at_last, at_body, at_block, block_line, statements_from, names_from};
 
 use crate::block::{self, Block, GrownSimple, GrownStatement, Handlers, depth_of_targets};
 use crate::cursor::{Cursor, Sign};
@@ -82,22 +82,46 @@ fn simple(
         return Ok(GrownSimple::new(Simple::Continue, 0));
     }
     if cursor.take(Sign::Return) {
-        if !cursor.starts() {
-            return Ok(GrownSimple::new(Simple::Return(None), 0));
-        }
-        let value = expressions(alloc, brackets, nodes, cursor)?;
-        let below = value.depth();
-        return Ok(GrownSimple::new(Simple::Return(Some(value.into_tree())), below));
+        return returned(alloc, brackets, nodes, cursor);
     }
     if cursor.take(Sign::Raise) {
-        if !cursor.starts() {
-            return Ok(GrownSimple::new(Simple::Raise(None), 0));
-        }
-        let value = expression(alloc, brackets, nodes, cursor)?;
-        let below = value.depth();
-        return Ok(GrownSimple::new(Simple::Raise(Some(value.into_tree())), below));
+        return raised(alloc, brackets, nodes, cursor);
     }
     assignment_or_value(alloc, brackets, nodes, cursor)
+}
+
+/// Behind `return`.
+fn returned(
+    alloc: Global,
+    brackets: usize,
+    nodes: u32,
+    cursor: &mut Cursor,
+) -> Result<GrownSimple, Refusal>
+    ensures { Gives (at_returned brackets nodes cursor.old) result cursor.new }
+{
+    if !cursor.starts() {
+        return Ok(GrownSimple::new(Simple::Return(None), 0));
+    }
+    let value = expressions(alloc, brackets, nodes, cursor)?;
+    let below = value.depth();
+    Ok(GrownSimple::new(Simple::Return(Some(value.into_tree())), below))
+}
+
+/// Behind `raise`.
+fn raised(
+    alloc: Global,
+    brackets: usize,
+    nodes: u32,
+    cursor: &mut Cursor,
+) -> Result<GrownSimple, Refusal>
+    ensures { Gives (at_raised brackets nodes cursor.old) result cursor.new }
+{
+    if !cursor.starts() {
+        return Ok(GrownSimple::new(Simple::Raise(None), 0));
+    }
+    let value = expression(alloc, brackets, nodes, cursor)?;
+    let below = value.depth();
+    Ok(GrownSimple::new(Simple::Raise(Some(value.into_tree())), below))
 }
 
 /// An assignment, or a right side alone. What stands before a sign of assignment is read twice: as a
@@ -112,7 +136,7 @@ fn assignment_or_value(
 {
     let start = cursor.copy();
     let value = right_side(alloc, brackets, nodes, cursor)?;
-    if cursor.take_augmented().is_some() {
+    if let Some(_) = cursor.take_augmented() {
         *cursor = start;
         return augmented(alloc, brackets, nodes, cursor);
     }
