@@ -123,7 +123,7 @@ for_is b n line ts = refl
 no_front : {A : Type 0} (read : Answer (List A)) → with_front [] read ≡ read
 unfolding then_read
 no_front None = refl
-no_front (Some (as, rest)) = refl
+no_front (Some (a, rest)) = refl
 
 pub try_is : (b n line : ℕ) (ts : List Token) → at_try b n line ts ≡ then_read (at_body b n ts) (λ body rest. then_read (handlers_from b n [] (length rest) rest) (λ handlers left. then_read (at_last b n (is_none handlers) left) (λ last end. within stmt_depth (compound.Try line body handlers last) end)))
 unfolding at_try at_body at_last handlers_from

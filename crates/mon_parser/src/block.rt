@@ -46,11 +46,16 @@ impl GrownSimple {
     }
 
     /// The statement, on a line, unless it is too deep.
+    #[tactic(auto, using(std::proofs::lemmas::Grind::common_steps, crate::proofs::StatementDepths::depth_line))]
     pub fn on_line(self, line: u32) -> Result<GrownStatement, Refusal>
         ensures { Made stmt_depth (stmt.Simple line self) result }
     {
         let GrownSimple { tree, below } = self;
-        made(Statement::Simple(line, tree), below)
+        let depth = above(below)?;
+        Ok(GrownStatement {
+            tree: Statement::Simple(line, tree),
+            depth,
+        })
     }
 }
 
@@ -76,16 +81,12 @@ impl Model for GrownStatement {
     ghost invariant = { λ g. g.depth ≡ stmt_depth g.tree };
 }
 
-/// A statement over parts of this depth, unless it is too deep.
-fn made(tree: Statement, below: u32) -> Result<GrownStatement, Refusal>
-    requires { stmt_depth tree ≡ 1 + below }
-    ensures { Made stmt_depth tree result }
+/// The depth of a node over parts of this depth, unless it is too deep.
+fn above(below: u32) -> Result<u32, Refusal>
+    ensures { Made (λ n. n) (1 + below) result }
 {
     if below < 256 {
-        Ok(GrownStatement {
-            tree,
-            depth: below + 1,
-        })
+        Ok(below + 1)
     } else {
         Err(Refusal::Syntax)
     }
@@ -260,15 +261,16 @@ pub fn branch(line: u32, test: Grown, body: Block, other: Block) -> Result<Grown
     ensures { Made stmt_depth (compound.If line test body other) result }
 {
     let below = deeper(test.depth(), deeper(body.depth(), other.depth()));
-    made(
-        Statement::If(
+    let depth = above(below)?;
+    Ok(GrownStatement {
+        tree: Statement::If(
             line,
             test.into_tree(),
             body.into_items(),
             other.into_items(),
         ),
-        below,
-    )
+        depth,
+    })
 }
 
 #[tactic(auto, using(std::proofs::lemmas::Grind::common_steps, crate::proofs::StatementDepths::depth_while))]
@@ -276,10 +278,11 @@ pub fn while_loop(line: u32, test: Grown, body: Block) -> Result<GrownStatement,
     ensures { Made stmt_depth (compound.While line test body) result }
 {
     let below = deeper(test.depth(), body.depth());
-    made(
-        Statement::While(line, test.into_tree(), body.into_items()),
-        below,
-    )
+    let depth = above(below)?;
+    Ok(GrownStatement {
+        tree: Statement::While(line, test.into_tree(), body.into_items()),
+        depth,
+    })
 }
 
 #[tactic(auto, using(std::proofs::lemmas::Grind::common_steps, crate::proofs::StatementDepths::depth_for))]
@@ -295,10 +298,11 @@ pub fn for_loop(
         depth_of_targets(&targets),
         deeper(over.depth(), body.depth()),
     );
-    made(
-        Statement::For(line, targets, over.into_tree(), body.into_items()),
-        below,
-    )
+    let depth = above(below)?;
+    Ok(GrownStatement {
+        tree: Statement::For(line, targets, over.into_tree(), body.into_items()),
+        depth,
+    })
 }
 
 #[tactic(auto, using(std::proofs::lemmas::Grind::common_steps, crate::proofs::StatementDepths::depth_try))]
@@ -312,10 +316,11 @@ pub fn try_block(
 {
     let below = deeper(body.depth(), deeper(handlers.depth, last.depth()));
     let Handlers { items, depth: _ } = handlers;
-    made(
-        Statement::Try(line, body.into_items(), items, last.into_items()),
-        below,
-    )
+    let depth = above(below)?;
+    Ok(GrownStatement {
+        tree: Statement::Try(line, body.into_items(), items, last.into_items()),
+        depth,
+    })
 }
 
 /// A constant, with its depth.
@@ -413,14 +418,14 @@ impl ConstantParts {
     pub fn tuple(self) -> Result<GrownConstant, Refusal>
         ensures { Made const_depth (consts.Tuple self) result }
     {
-        let ConstantParts { items, depth } = self;
-        if depth < 256 {
-            Ok(GrownConstant {
-                tree: Constant::Tuple(items),
-                depth: depth + 1,
-            })
-        } else {
-            Err(Refusal::Syntax)
-        }
+        let ConstantParts {
+            items,
+            depth: below,
+        } = self;
+        let depth = above(below)?;
+        Ok(GrownConstant {
+            tree: Constant::Tuple(items),
+            depth,
+        })
     }
 }

@@ -13,7 +13,7 @@ pub statement-returns-then-nodes-eq0 : goal.statement-returns-then-nodes-eq0
 statement-returns-then-nodes-eq0 t c = λ e. statement_none _ _ _ c.if-nodes-eq0.true
 
 pub statement-returns-then-take : goal.statement-returns-then-take
-statement-returns-then-take t c = gives_by _ _ _ _ (statement_is c.args.brackets c.args.nodes c.args.cursor.now (omega arith) ∙ taken _ _ c.if-take.ensures.taken ∙ ap (λ l. at_branch c.args.brackets (c.args.nodes - 1) l c.take.new.self) (sym c.line-line.ensures)) c.branch.ensures
+statement-returns-then-take t c = gives_by _ _ _ _ (statement_is c.args.brackets c.args.nodes c.args.cursor.now (omega arith) ∙ taken _ _ c.if-take.ensures.taken ∙ ap (λ l. at_branch c.args.brackets (c.args.nodes - 1) l c.take.new.self) (sym c.line-line.ensures)) c.branch-alloc.ensures
 
 pub statement-returns-then-take-2 : goal.statement-returns-then-take-2
 statement-returns-then-take-2 t c = gives_by _ _ _ _ (statement_is c.args.brackets c.args.nodes c.args.cursor.now (omega arith) ∙ passed _ _ c.if-take.ensures.other.0 ∙ taken _ _ (after _ _ c.if-take.ensures.other c.if-take-2.ensures.taken) ∙ ap (λ l. at_while c.args.brackets (c.args.nodes - 1) l c.take-2.new.self) (sym c.line-line.ensures)) c.while_loop.ensures
@@ -37,7 +37,7 @@ pub branch-returns-in_err-other : goal.branch-returns-in_err-other
 branch-returns-in_err-other t c = refuses _ _ c.in_err-other.field-0.0 _ c.from_residual-in_err-other.ensures.1 (λ e. branch_is _ _ _ _ ∙ found _ c.in_ok-test.ensures ∙ found _ c.in_ok-body.ensures ∙ missed _ (c.in_err-other.ensures e))
 
 pub branch-returns : goal.branch-returns
-branch-returns t c = gives_made stmt_depth (compound.If _ _ _ _) _ _ _ (branch_is _ _ _ _ ∙ found _ c.in_ok-test.ensures ∙ found _ c.in_ok-body.ensures ∙ found _ c.in_ok-other.ensures) c.branch.ensures
+branch-returns t c = gives_made stmt_depth (compound.If _ _ _ _) _ _ _ (branch_is _ _ _ _ ∙ found _ c.in_ok-test.ensures ∙ found _ c.in_ok-body.ensures ∙ found _ c.in_ok-other.ensures) c.branch-line.ensures
 
 pub while_loop-returns-in_err-test : goal.while_loop-returns-in_err-test
 while_loop-returns-in_err-test t c = refuses _ _ c.in_err-test.field-0.0 _ c.from_residual.ensures.1 (λ e. while_is _ _ _ _ ∙ missed _ (c.in_err-test.ensures e))
@@ -70,10 +70,10 @@ pub try_block-returns-in_err-handlers : goal.try_block-returns-in_err-handlers
 try_block-returns-in_err-handlers t c = refuses _ _ c.in_err-handlers.field-0.0 _ c.from_residual-in_err-handlers.ensures.1 (λ e. try_is _ _ _ _ ∙ found _ c.in_ok-body.ensures ∙ missed _ (c.in_err-handlers.ensures e))
 
 pub try_block-returns-in_err-last : goal.try_block-returns-in_err-last
-try_block-returns-in_err-last t c = refuses _ _ c.in_err-last.field-0.0 _ c.from_residual-in_err-last.ensures.1 (λ e. try_is _ _ _ _ ∙ found _ c.in_ok-body.ensures ∙ found _ c.in_ok-handlers.ensures ∙ ap (λ r. then_read (at_last c.args.brackets c.args.nodes r c.handlers.new.cursor) (λ last end. within stmt_depth (compound.Try _ _ _ last) end)) (sym c.is_empty.ensures) ∙ missed _ (c.in_err-last.ensures e))
+try_block-returns-in_err-last t c = refuses _ _ c.in_err-last.field-0.0 _ c.from_residual-in_err-last.ensures.1 (λ e. try_is _ _ _ _ ∙ found _ c.in_ok-body.ensures ∙ found _ c.in_ok-handlers.ensures ∙ ap (λ r. then_read (at_last c.args.brackets c.args.nodes r c.handlers.new.cursor) (λ last end. within stmt_depth (compound.Try c.args.line c.in_ok-body.body c.in_ok-handlers.handlers last) end)) (sym c.is_empty.ensures) ∙ missed _ (c.in_err-last.ensures e))
 
 pub try_block-returns : goal.try_block-returns
-try_block-returns t c = gives_made stmt_depth (compound.Try _ _ _ _) _ _ _ (try_is _ _ _ _ ∙ found _ c.in_ok-body.ensures ∙ found _ c.in_ok-handlers.ensures ∙ ap (λ r. then_read (at_last c.args.brackets c.args.nodes r c.handlers.new.cursor) (λ last end. within stmt_depth (compound.Try _ _ _ last) end)) (sym c.is_empty.ensures) ∙ found _ c.in_ok-last.ensures) c.try_block.ensures
+try_block-returns t c = gives_made stmt_depth (compound.Try _ _ _ _) _ _ _ (try_is _ _ _ _ ∙ found _ c.in_ok-body.ensures ∙ found _ c.in_ok-handlers.ensures ∙ ap (λ r. then_read (at_last c.args.brackets c.args.nodes r c.handlers.new.cursor) (λ last end. within stmt_depth (compound.Try c.args.line c.in_ok-body.body c.in_ok-handlers.handlers last) end)) (sym c.is_empty.ensures) ∙ found _ c.in_ok-last.ensures) c.try_block.ensures
 
 pub other-returns-then-take : goal.other-returns-then-take
 other-returns-then-take t c = gives_by _ _ _ _ (other_is _ _ _ ∙ taken _ _ c.if-take.ensures.taken ∙ ap (λ l. at_elif c.args.brackets c.args.nodes l c.take.new.self) (sym c.line-line.ensures)) c.elif.ensures
@@ -94,7 +94,7 @@ pub elif-returns-in_err-of_one : goal.elif-returns-in_err-of_one
 elif-returns-in_err-of_one t c = runs_out _ _ _ c.from_residual-in_err-of_one.ensures.1
 
 pub elif-returns : goal.elif-returns
-elif-returns t c = elif_is c.args.brackets c.args.nodes c.args.line c.args.cursor.now (omega arith) ∙ found _ c.in_ok-statement.ensures ∙ ap (λ b. Some (b, c.branch.new.cursor)) (sym c.in_ok-of_one.ensures)
+elif-returns t c = elif_is c.args.brackets c.args.nodes c.args.line c.args.cursor.now (omega arith) ∙ found _ c.in_ok-statement.ensures ∙ ap (λ b. Some (b, c.branch-alloc.new.cursor)) (sym c.in_ok-of_one.ensures)
 
 pub handlers-loop-turn-init : goal.handlers-loop-turn-init
 handlers-loop-turn-init t c = handlers_start _ _ _ _ _ c.new-handlers.ensures
@@ -103,7 +103,7 @@ pub handlers-returns-then-not-take : goal.handlers-returns-then-not-take
 handlers-returns-then-not-take t c = ap (λ n. handlers_from c.args.brackets c.args.nodes [] n c.args.cursor.now) (sym c.len-turns.ensures) ∙ c.loop-turn.invariant ∙ handlers_go _ _ _ _ _ _ c.loop-turn-test.true ∙ passed _ _ c.if-not-take.ensures.other.0 ∙ ap (λ w. Some (c.loop-turn.handlers, w)) (sym c.if-not-take.ensures.other.1)
 
 pub handlers-returns-then-take : goal.handlers-returns-then-take
-handlers-returns-then-take t c = gives_by _ _ _ _ (ap (λ n. handlers_from c.args.brackets c.args.nodes [] n c.args.cursor.now) (sym c.len-turns.ensures) ∙ c.loop-turn.invariant ∙ handlers_go _ _ _ _ _ _ c.loop-turn-test.true ∙ taken _ _ c.if-not-take.ensures.taken ∙ taken _ _ c.if-take.ensures.taken ∙ ap (λ l. at_bare_handler c.args.brackets c.args.nodes l c.loop-turn.handlers c.take-2.new.self) (sym c.line-line.ensures)) c.bare_handler.ensures
+handlers-returns-then-take t c = gives_by _ _ _ _ (ap (λ n. handlers_from c.args.brackets c.args.nodes [] n c.args.cursor.now) (sym c.len-turns.ensures) ∙ c.loop-turn.invariant ∙ handlers_go _ _ _ _ _ _ c.loop-turn-test.true ∙ taken _ _ c.if-not-take.ensures.taken ∙ taken _ _ c.if-take.ensures.taken ∙ ap (λ l. at_bare_handler c.args.brackets c.args.nodes l c.loop-turn.handlers c.take-in-loop-turn.new.self) (sym c.line-line.ensures)) c.bare_handler.ensures
 
 pub handlers-returns-in_err-handlers : goal.handlers-returns-in_err-handlers
 handlers-returns-in_err-handlers t c = refuses _ _ c.in_err-handlers.field-0.0 _ c.from_residual.ensures.1 (λ e. ap (λ n. handlers_from c.args.brackets c.args.nodes [] n c.args.cursor.now) (sym c.len-turns.ensures) ∙ c.loop-turn.invariant ∙ handlers_named _ _ _ _ _ _ _ _ _ _ c.loop-turn-test.true c.line-line.ensures c.if-not-take.ensures.taken c.if-take.ensures.other ∙ missed _ (c.in_err-handlers.ensures e))
@@ -132,11 +132,11 @@ handler-returns t c = handler_is _ _ _ _ _ ∙ found _ c.in_ok-class.ensures ∙
 pub bare_handler-returns-in_err-body : goal.bare_handler-returns-in_err-body
 bare_handler-returns-in_err-body t c = refuses _ _ c.in_err-body.field-0.0 _ c.from_residual.ensures.1 (λ e. bare_handler_is _ _ _ _ _ ∙ missed _ (c.in_err-body.ensures e))
 
-pub bare_handler-returns-in_err-push : goal.bare_handler-returns-in_err-push
-bare_handler-returns-in_err-push t c = runs_out _ _ _ c.from_residual-in_err-push.ensures.1
+pub bare_handler-returns-in_err-push_bare : goal.bare_handler-returns-in_err-push_bare
+bare_handler-returns-in_err-push_bare t c = runs_out _ _ _ c.from_residual-in_err-push_bare.ensures.1
 
 pub bare_handler-returns : goal.bare_handler-returns
-bare_handler-returns t c = bare_handler_is _ _ _ _ _ ∙ found _ c.in_ok-body.ensures ∙ ap (λ w. Some (w, c.block_of.new.cursor)) (sym c.in_ok-push.ensures)
+bare_handler-returns t c = bare_handler_is _ _ _ _ _ ∙ found _ c.in_ok-body.ensures ∙ ap (λ w. Some (w, c.block_of.new.cursor)) (sym c.in_ok-push_bare.ensures)
 
 pub last-returns-then-take : goal.last-returns-then-take
 last-returns-then-take t c = gives_by _ _ _ _ (last_is _ _ _ _ ∙ taken _ _ c.if-take.ensures.taken) c.body.ensures
@@ -175,7 +175,7 @@ pub statements-returns-then-take : goal.statements-returns-then-take
 statements-returns-then-take t c = ap (λ n. statements_from c.args.brackets c.args.nodes [] n c.args.cursor.now) (sym c.len-turns.ensures) ∙ c.loop-turn.invariant ∙ statements_go _ _ _ _ _ _ c.loop-turn-test.true ∙ found _ c.in_ok-next.ensures ∙ taken _ _ c.if-take.ensures.taken ∙ ap (λ w. Some (w, c.take.new.self)) (sym c.in_ok-push.ensures)
 
 pub statements-loop-turn-preserved : goal.statements-loop-turn-preserved
-statements-loop-turn-preserved t c = c.loop-turn.invariant ∙ statements_go _ _ _ _ _ _ c.loop-turn-test.true ∙ found _ c.in_ok-next.ensures ∙ passed _ _ c.if-take.ensures.other.0 ∙ ap (λ w. statements_from c.args.brackets c.args.nodes w (c.len-turns.result - (c.loop-turn._turn + 1)) c.statement.new.cursor) (sym c.in_ok-push.ensures) ∙ ap (λ w. statements_from c.args.brackets c.args.nodes _ _ w) (sym c.if-take.ensures.other.1)
+statements-loop-turn-preserved t c = c.loop-turn.invariant ∙ statements_go _ _ _ _ _ _ c.loop-turn-test.true ∙ found _ c.in_ok-next.ensures ∙ passed _ _ c.if-take.ensures.other.0 ∙ ap (λ w. statements_from c.args.brackets c.args.nodes w (c.len-turns.result - (c.loop-turn._turn + 1)) c.statement.new.cursor) (sym c.in_ok-push.ensures) ∙ ap (λ w. statements_from c.args.brackets c.args.nodes c.push.new.self (c.len-turns.result - (c.loop-turn._turn + 1)) w) (sym c.if-take.ensures.other.1)
 
 pub statements-returns : goal.statements-returns
 statements-returns t c = λ e. ap (λ n. statements_from c.args.brackets c.args.nodes [] n c.args.cursor.now) (sym c.len-turns.ensures) ∙ c.loop-turn.invariant ∙ statements_end _ _ _ _ _ _ (omega (arith, c.loop-turn-test.false))

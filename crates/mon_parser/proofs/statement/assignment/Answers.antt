@@ -15,4 +15,4 @@ pub returns-in_err-value : goal.returns-in_err-value
 returns-in_err-value c = refuses _ _ c.in_err-value.field-0.0 _ c.from_residual-in_err-value.ensures.1 (λ e. assignment_is _ _ _ ∙ found _ c.in_ok-to.ensures ∙ found _ c.in_ok-expect.ensures ∙ missed _ (c.in_err-value.ensures e))
 
 pub returns : goal.returns
-returns c = assignment_is _ _ _ ∙ found _ c.in_ok-to.ensures ∙ found _ c.in_ok-expect.ensures ∙ found _ c.in_ok-value.ensures ∙ ap (λ s. Some (s, c.right_side.new.cursor)) (sym (c.new.ensures ∙ ap (λ e. simple.Assign _ e) c.into_tree.ensures))
+returns c = assignment_is _ _ _ ∙ found _ c.in_ok-to.ensures ∙ found _ c.in_ok-expect.ensures ∙ found _ c.in_ok-value.ensures ∙ ap (λ s. Some (s, c.right_side.new.cursor)) (sym (c.new.ensures ∙ ap (λ e. simple.Assign c.in_ok-to.to e) c.into_tree.ensures))

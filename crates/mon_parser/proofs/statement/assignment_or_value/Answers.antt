@@ -16,4 +16,4 @@ pub returns-then-take : goal.returns-then-take
 returns-then-take c = gives_by _ _ _ _ (assignment_or_value_is _ _ _ ∙ found _ c.in_ok-value.ensures ∙ passed _ _ c.in_default.ensures.0 ∙ taken _ _ (after _ _ c.in_default.ensures c.if-take.ensures.taken) ∙ ap (λ w. at_assignment c.args.brackets c.args.nodes w) (sym c.copy-start.ensures)) c.assignment.ensures
 
 pub returns : goal.returns
-returns c = assignment_or_value_is _ _ _ ∙ found _ c.in_ok-value.ensures ∙ passed _ _ c.in_default.ensures.0 ∙ passed _ _ (after _ _ c.in_default.ensures c.if-take.ensures.other.0) ∙ ap (λ w. Some (simple.Expression _, w)) (sym (c.if-take.ensures.other.1 ∙ c.in_default.ensures.1)) ∙ ap (λ s. Some (s, c.take.new.self)) (sym (c.new.ensures ∙ ap (λ e. simple.Expression e) c.into_tree.ensures))
+returns c = assignment_or_value_is _ _ _ ∙ found _ c.in_ok-value.ensures ∙ passed _ _ c.in_default.ensures.0 ∙ passed _ _ (after _ _ c.in_default.ensures c.if-take.ensures.other.0) ∙ ap (λ w. Some (simple.Expression c.in_ok-value.value, w)) (sym (c.if-take.ensures.other.1 ∙ c.in_default.ensures.1)) ∙ ap (λ s. Some (s, c.take.new.self)) (sym (c.new.ensures ∙ ap (λ e. simple.Expression e) c.into_tree.ensures))

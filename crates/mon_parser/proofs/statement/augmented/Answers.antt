@@ -15,4 +15,4 @@ pub returns-in_err-value : goal.returns-in_err-value
 returns-in_err-value c = refuses _ _ c.in_err-value.field-0.0 _ c.from_residual-in_err-value.ensures.1 (λ e. augmented_is _ _ _ ∙ found _ c.in_ok-name.ensures ∙ found _ c.in_ok-op.ensures ∙ missed _ (c.in_err-value.ensures e))
 
 pub returns : goal.returns
-returns c = augmented_is _ _ _ ∙ found _ c.in_ok-name.ensures ∙ found _ c.in_ok-op.ensures ∙ found _ c.in_ok-value.ensures ∙ ap (λ s. Some (s, c.right_side.new.cursor)) (sym (c.new.ensures ∙ ap (λ e. simple.Augmented _ _ e) c.into_tree.ensures))
+returns c = augmented_is _ _ _ ∙ found _ c.in_ok-name.ensures ∙ found _ c.in_ok-op.ensures ∙ found _ c.in_ok-value.ensures ∙ ap (λ s. Some (s, c.right_side.new.cursor)) (sym (c.new.ensures ∙ ap (λ e. simple.Augmented c.in_ok-name.name c.in_ok-op.op e) c.into_tree.ensures))

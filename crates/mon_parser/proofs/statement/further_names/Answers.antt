@@ -20,7 +20,7 @@ pub returns-in_err-push : goal.returns-in_err-push
 returns-in_err-push c = runs_out _ _ _ c.from_residual-in_err-push.ensures.1
 
 pub loop-turn-preserved : goal.loop-turn-preserved
-loop-turn-preserved c = c.loop-turn.invariant ∙ names_more _ _ _ _ _ _ _ _ _ c.loop-turn-test.true c.if-not-take.ensures.taken (cc) c.in_ok-name.ensures c.in_ok-push.ensures
+loop-turn-preserved c = c.loop-turn.invariant ∙ names_more _ _ _ _ _ _ _ _ _ c.loop-turn-test.true c.if-not-take.ensures.taken (cc) c.in_ok-name.ensures c.in_ok-push.ensures.ok
 
 pub returns : goal.returns
 returns c = ap (λ n. names_from c.args.names n c.args.cursor.now) (sym c.len-turns.ensures) ∙ c.loop-turn.invariant ∙ names_end _ _ _ _ (omega (arith, c.loop-turn-test.false))

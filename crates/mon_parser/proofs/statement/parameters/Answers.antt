@@ -19,4 +19,4 @@ returns-in_err-push c = runs_out _ _ _ c.from_residual-in_err-push.ensures.1
 pub returns : goal.returns
 returns c =
     let some : starts_name c.args.cursor.now ≡ true = cc in
-    gives_by _ _ _ _ (parameters_go _ _ _ _ some c.in_ok-first.ensures (c.in_ok-push.ensures ∙ ap (λ p. p ++ c.in_ok-first.first ∷ []) c.new-names.ensures)) c.further_names.ensures
+    gives_by _ _ _ _ (parameters_go _ _ _ _ some c.in_ok-first.ensures (c.in_ok-push.ensures.ok ∙ ap (λ p. p ++ c.in_ok-first.first ∷ []) c.new-names.ensures)) c.further_names.ensures

@@ -17,4 +17,4 @@ pub returns-in_err-expect : goal.returns-in_err-expect
 returns-in_err-expect c = refuses _ _ c.in_err-expect.field-0.0 _ c.from_residual-in_err-expect.ensures.1 (λ e. line_is c.args.brackets c.args.nodes c.args.cursor.now (omega arith) ∙ found _ c.in_ok-statement.ensures ∙ missed _ (c.in_err-expect.ensures e))
 
 pub returns : goal.returns
-returns c = gives_made stmt_depth (stmt.Simple _ _) _ _ _ (line_is c.args.brackets c.args.nodes c.args.cursor.now (omega arith) ∙ found _ c.in_ok-statement.ensures ∙ found _ c.in_ok-expect.ensures ∙ ap (λ l. within stmt_depth (stmt.Simple l _) _) (sym c.line-line.ensures)) c.on_line.ensures
+returns c = gives_made stmt_depth (stmt.Simple c.line-line.result c.in_ok-statement.statement) _ _ _ (line_is c.args.brackets c.args.nodes c.args.cursor.now (omega arith) ∙ found _ c.in_ok-statement.ensures ∙ found _ c.in_ok-expect.ensures ∙ ap (λ l. within stmt_depth (stmt.Simple l c.in_ok-statement.statement) c.expect.new.self) (sym c.line-line.ensures)) c.on_line.ensures

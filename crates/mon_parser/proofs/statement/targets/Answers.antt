@@ -19,9 +19,9 @@ returns-in_err-push c = runs_out _ _ _ c.from_residual-in_err-push.ensures.1
 pub returns-in_err-further_names : goal.returns-in_err-further_names
 returns-in_err-further_names c =
     let some : is_comma c.expect_name.new.self ≡ true = cc in
-    refuses _ _ c.in_err-further_names.field-0.0 _ c.from_residual-in_err-further_names.ensures.1 (λ e. targets_go _ _ _ _ c.in_ok-first.ensures some (c.in_ok-push.ensures ∙ ap (λ p. p ++ c.in_ok-first.first ∷ []) c.new-names.ensures) ∙ missed _ (c.in_err-further_names.ensures e))
+    refuses _ _ c.in_err-further_names.field-0.0 _ c.from_residual-in_err-further_names.ensures.1 (λ e. targets_go _ _ _ _ c.in_ok-first.ensures some (c.in_ok-push.ensures.ok ∙ ap (λ p. p ++ c.in_ok-first.first ∷ []) c.new-names.ensures) ∙ missed _ (c.in_err-further_names.ensures e))
 
 pub returns : goal.returns
 returns c =
     let some : is_comma c.expect_name.new.self ≡ true = cc in
-    targets_go _ _ _ _ c.in_ok-first.ensures some (c.in_ok-push.ensures ∙ ap (λ p. p ++ c.in_ok-first.first ∷ []) c.new-names.ensures) ∙ found _ c.in_ok-further_names.ensures
+    targets_go _ _ _ _ c.in_ok-first.ensures some (c.in_ok-push.ensures.ok ∙ ap (λ p. p ++ c.in_ok-first.first ∷ []) c.new-names.ensures) ∙ found _ c.in_ok-further_names.ensures
