@@ -1,0 +1,12 @@
+pub mod Tokens
+pub mod Depth
+pub mod Grammar
+pub mod Nesting
+pub mod Derives
+pub mod Reader
+pub mod Statements
+pub mod Readings
+pub mod StatementReadings
+pub mod ItemReadings
+pub mod Code
+pub mod Laws

@@ -1,0 +1,22 @@
+//! The trees of a program's text, from its tokens.
+#![tactic(auto)]
+
+mod block;
+mod constant;
+mod cursor;
+mod expression;
+mod grown;
+mod item;
+mod laws;
+mod levels;
+mod operand;
+mod parser;
+mod refusal;
+mod statement;
+pub mod tree;
+
+pub use laws::{expression_derives_once, item_derives_once, item_keeps_limits, items_parse_once};
+pub use parser::{SyntaxFault, parse};
+
+#[cfg(test)]
+mod tests;
