@@ -103,11 +103,11 @@ fn reads_operators_rows() -> &'static [Row] {
         ),
         (
             b"def f(): return a is None\n",
-            "def@1 f() {return@1 (is a None)};",
+            "def@1 f() {return@1 (is None a)};",
         ),
         (
             b"def f(): return a is not True\n",
-            "def@1 f() {return@1 (is not a True)};",
+            "def@1 f() {return@1 (is not True a)};",
         ),
         (
             b"def f(): return a + b < c - d\n",
@@ -116,6 +116,22 @@ fn reads_operators_rows() -> &'static [Row] {
         (
             b"def f(): return a and b if c or d else not e\n",
             "def@1 f() {return@1 (if (or c d) (and a b) (not e))};",
+        ),
+        (
+            b"def f(): return a - b + c - d\n",
+            "def@1 f() {return@1 (Subtract (Add (Subtract a b) c) d)};",
+        ),
+        (
+            b"def f(): return (not a) == b\n",
+            "def@1 f() {return@1 (Equal (not a) b)};",
+        ),
+        (
+            b"def f(): return a or b and not c in d\n",
+            "def@1 f() {return@1 (or a (and b (not (In c d))))};",
+        ),
+        (
+            b"def f(): return a is False and b is not False\n",
+            "def@1 f() {return@1 (and (is False a) (is not False b))};",
         ),
     ]
 }
@@ -211,6 +227,22 @@ fn reads_operands_rows() -> &'static [Row] {
         (
             b"def f(): return f((yield a))\n",
             "def@1 f() {return@1 (call f (yield@1 a))};",
+        ),
+        (
+            b"def f(): return a[b if c else d]\n",
+            "def@1 f() {return@1 (at a (if c b d))};",
+        ),
+        (
+            b"def f(): return a.send()\n",
+            "def@1 f() {return@1 (Send a)};",
+        ),
+        (
+            b"def f(): return 'a'.send(b,).close()[c]\n",
+            "def@1 f() {return@1 (at (Close (Send 'a' b)) c)};",
+        ),
+        (
+            b"def f(): return (\n  yield\n)\n",
+            "def@1 f() {return@1 (yield@2)};",
         ),
     ]
 }

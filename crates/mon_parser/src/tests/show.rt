@@ -59,103 +59,97 @@ fn show_constant(out: &mut String, constant: &Constant) -> Result<(), AllocError
     }
 }
 
-#[cycle(show)]
-fn show_parts(out: &mut String, parts: &Items<Expression>) -> Result<(), AllocError> {
-    for part in parts.as_slice() {
-        write!(out, " ")?;
-        show_expression(out, part)?;
-    }
-    write!(out, ")")
-}
-
-#[cycle(show)]
-fn show_two(out: &mut String, a: &Expression, b: &Expression) -> Result<(), AllocError> {
-    write!(out, " ")?;
-    show_expression(out, a)?;
-    write!(out, " ")?;
-    show_expression(out, b)?;
-    write!(out, ")")
-}
-
-#[cycle(show)]
-fn show_one(out: &mut String, a: &Expression) -> Result<(), AllocError> {
-    write!(out, " ")?;
-    show_expression(out, a)?;
-    write!(out, ")")
-}
-
-/// An expression, its operator first.
-#[cycle(show)]
-fn show_expression(out: &mut String, expression: &Expression) -> Result<(), AllocError> {
+/// What stands before an expression's operands.
+fn show_head(out: &mut String, expression: &Expression) -> Result<(), AllocError> {
     match expression {
         Expression::Name(name) => show_text(out, name),
         Expression::Integer(value) => write!(out, "{value}"),
         Expression::Text(text) => show_quoted(out, text),
         Expression::Single(single) => write!(out, "{single:?}"),
         Expression::Empty => write!(out, "()"),
-        Expression::Tuple(parts) => {
-            write!(out, "(,")?;
-            show_parts(out, parts)
-        }
-        Expression::Yield(line, None) => write!(out, "(yield@{line})"),
-        Expression::Yield(line, Some(value)) => {
-            write!(out, "(yield@{line}")?;
-            show_one(out, value.get())
-        }
+        Expression::Tuple(_) => write!(out, "(,"),
+        Expression::Yield(line, _) => write!(out, "(yield@{line}"),
+        Expression::If(_, _, _) => write!(out, "(if"),
+        Expression::Or(_, _) => write!(out, "(or"),
+        Expression::And(_, _) => write!(out, "(and"),
+        Expression::Not(_) => write!(out, "(not"),
+        Expression::Compare(op, _, _) => write!(out, "({op:?}"),
+        Expression::Is(_, single) => write!(out, "(is {single:?}"),
+        Expression::IsNot(_, single) => write!(out, "(is not {single:?}"),
+        Expression::Binary(op, _, _) => write!(out, "({op:?}"),
+        Expression::Negative(_) => write!(out, "(-"),
+        Expression::Call(_, _) => write!(out, "(call"),
+        Expression::Method(_, method, _) => write!(out, "({method:?}"),
+        Expression::Subscript(_, _) => write!(out, "(at"),
+    }
+}
+
+#[cycle(show)]
+fn show_operand(out: &mut String, operand: &Expression) -> Result<(), AllocError> {
+    write!(out, " ")?;
+    show_expression(out, operand)
+}
+
+#[cycle(show)]
+fn show_operands(out: &mut String, operands: &Items<Expression>) -> Result<(), AllocError> {
+    for operand in operands.as_slice() {
+        show_operand(out, operand)?;
+    }
+    Ok(())
+}
+
+/// An expression, its operator first.
+#[cycle(show)]
+fn show_expression(out: &mut String, expression: &Expression) -> Result<(), AllocError> {
+    show_head(out, expression)?;
+    match expression {
+        Expression::Name(_) => return Ok(()),
+        Expression::Integer(_) => return Ok(()),
+        Expression::Text(_) => return Ok(()),
+        Expression::Single(_) => return Ok(()),
+        Expression::Empty => return Ok(()),
+        Expression::Tuple(parts) => show_operands(out, parts)?,
+        Expression::Yield(_, None) => {}
+        Expression::Yield(_, Some(value)) => show_operand(out, value.get())?,
         Expression::If(a, test, b) => {
-            write!(out, "(if ")?;
-            show_expression(out, test.get())?;
-            show_two(out, a.get(), b.get())
+            show_operand(out, test.get())?;
+            show_operand(out, a.get())?;
+            show_operand(out, b.get())?;
         }
         Expression::Or(a, b) => {
-            write!(out, "(or")?;
-            show_two(out, a.get(), b.get())
+            show_operand(out, a.get())?;
+            show_operand(out, b.get())?;
         }
         Expression::And(a, b) => {
-            write!(out, "(and")?;
-            show_two(out, a.get(), b.get())
+            show_operand(out, a.get())?;
+            show_operand(out, b.get())?;
         }
-        Expression::Not(a) => {
-            write!(out, "(not")?;
-            show_one(out, a.get())
+        Expression::Not(a) => show_operand(out, a.get())?,
+        Expression::Compare(_, a, b) => {
+            show_operand(out, a.get())?;
+            show_operand(out, b.get())?;
         }
-        Expression::Compare(op, a, b) => {
-            write!(out, "({op:?}")?;
-            show_two(out, a.get(), b.get())
+        Expression::Is(a, _) => show_operand(out, a.get())?,
+        Expression::IsNot(a, _) => show_operand(out, a.get())?,
+        Expression::Binary(_, a, b) => {
+            show_operand(out, a.get())?;
+            show_operand(out, b.get())?;
         }
-        Expression::Is(a, single) => {
-            write!(out, "(is ")?;
-            show_expression(out, a.get())?;
-            write!(out, " {single:?})")
-        }
-        Expression::IsNot(a, single) => {
-            write!(out, "(is not ")?;
-            show_expression(out, a.get())?;
-            write!(out, " {single:?})")
-        }
-        Expression::Binary(op, a, b) => {
-            write!(out, "({op:?}")?;
-            show_two(out, a.get(), b.get())
-        }
-        Expression::Negative(a) => {
-            write!(out, "(-")?;
-            show_one(out, a.get())
-        }
+        Expression::Negative(a) => show_operand(out, a.get())?,
         Expression::Call(f, arguments) => {
-            write!(out, "(call ")?;
-            show_expression(out, f.get())?;
-            show_parts(out, arguments)
+            show_operand(out, f.get())?;
+            show_operands(out, arguments)?;
         }
-        Expression::Method(a, method, arguments) => {
-            write!(out, "({method:?} ")?;
-            show_expression(out, a.get())?;
-            show_parts(out, arguments)
+        Expression::Method(a, _, arguments) => {
+            show_operand(out, a.get())?;
+            show_operands(out, arguments)?;
         }
         Expression::Subscript(a, b) => {
-            write!(out, "(at")?;
-            show_two(out, a.get(), b.get())
+            show_operand(out, a.get())?;
+            show_operand(out, b.get())?;
         }
     }
+    write!(out, ")")
 }
 
 fn show_value(out: &mut String, value: &Option<Expression>) -> Result<(), AllocError> {
