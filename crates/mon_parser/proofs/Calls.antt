@@ -63,4 +63,3 @@ leaf_no (Some u) ts rest e m = absurd (no_some u e)
 pub memory_only : {A : Type 0} (result : Result A Refusal) (f : Refusal) → IsErrAnd result (λ e. e ≡ f) → f ≡ Memory → IsErrAnd result (λ e. e ≡ Memory)
 memory_only (Ok a) f h m = h
 memory_only (Err e) f h m = h ∙ m
-

@@ -100,6 +100,7 @@ comparison_is b n ts = opened ∙ by_first (at_level level.Sum b n ts)
         (choose (next_at (mark_at sign.Not) rest) (choose (next_at cmp_op rest) (Some (a, rest)) (λ c left. behind_comparison b n a c left)) (λ is left. then_read (next_at (mark_at sign.In) left) (λ is end. behind_comparison b n a comparison.NotIn end)))
         (λ is left. identity_at a left))
     opened = refl
+
     by_first : (read : Answer Expression) → then_read read (λ a rest. choose (next_at (mark_at sign.Is) rest)
         (choose (next_at (mark_at sign.Not) rest) (choose (next_at cmp_op rest) (Some (a, rest)) (λ c left. behind_comparison b n a c left)) (λ is left. then_read (next_at (mark_at sign.In) left) (λ is end. behind_comparison b n a comparison.NotIn end)))
         (λ is left. identity_at a left)) ≡ then_read read (λ a rest. choose (next_at (mark_at sign.Is) rest) (then_read (comparison_at rest) (λ o left. maybe_compared b n a o left)) (λ is left. identity_at a left))
@@ -136,9 +137,11 @@ ask_is b n a ts = opened ∙ by_method (next_at method_at ts)
   where
     opened : at_suffix b n suffix.Ask a ts ≡ then_read (next_at method_at ts) (λ m rest. then_read (next_at (mark_at sign.OpenRound) rest) (λ is left. then_read (at_arguments b n left) (λ es end. ask_ends a m es end)))
     opened = refl
+
     by_open : (m : Method) (read : Answer ⊤) → then_read read (λ is left. then_read (at_arguments b n left) (λ es end. ask_ends a m es end)) ≡ then_read (then_read read (λ is left. Some (m, left))) (λ m left. then_read (at_arguments b n left) (λ es end. ask_ends a m es end))
     by_open m None = refl
     by_open m (Some (is, left)) = refl
+
     by_method : (read : Answer Method) → then_read read (λ m rest. then_read (next_at (mark_at sign.OpenRound) rest) (λ is left. then_read (at_arguments b n left) (λ es end. ask_ends a m es end)))
         ≡ then_read (then_read read (λ m rest. then_read (next_at (mark_at sign.OpenRound) rest) (λ is left. Some (m, left)))) (λ m left. then_read (at_arguments b n left) (λ es end. ask_ends a m es end))
     by_method None = refl
@@ -179,6 +182,7 @@ expressions_are b n ts = by_first (read_expr b n ts)
     by_more : (e : Expression) (read : Answer (List Expression)) → then_read read (λ es end. within expr_depth (node.Tuple (e ∷ es)) end) ≡ then_read (with_front (e ∷ []) read) (λ all end. within expr_depth (node.Tuple all) end)
     by_more e None = refl
     by_more e (Some (es, end)) = refl
+
     by_first : (read : Answer Expression) → then_read read (λ e rest. pick (is_comma rest) (then_read (more_items starts (read_expr b n) (length rest) rest) (λ es end. within expr_depth (node.Tuple (e ∷ es)) end)) (Some (e, rest)))
         ≡ then_read read (λ e rest. pick (is_comma rest) (then_read (with_front (e ∷ []) (more_items starts (read_expr b n) (length rest) rest)) (λ all end. within expr_depth (node.Tuple all) end)) (Some (e, rest)))
     by_first None = refl
@@ -272,4 +276,3 @@ group_goes b n ts same k = group_is b n ts ∙ passed _ _ k.0 ∙ ap (λ w. then
 
 pub right_side_goes : (b n : ℕ) (ts same : List Token) → (yield_line ts ≡ None) × (same ≡ ts) → at_right_side b n ts ≡ at_expressions b n same
 right_side_goes b n ts same k = right_side_is b n ts ∙ passed _ _ k.0 ∙ ap (λ w. at_expressions b n w) (sym k.1)
-

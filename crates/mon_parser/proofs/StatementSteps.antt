@@ -260,6 +260,7 @@ targets_go ts rest n names e c p = found _ e ∙ picked _ _ c ∙ by_names (more
     by_names : (read : Answer (List (List ℕ))) → then_read read (λ ns left. Some (targets.Tuple (n ∷ ns), left)) ≡ then_read (with_front (n ∷ []) read) (λ all left. Some (targets.Tuple all, left))
     by_names None = refl
     by_names (Some (ns, left)) = refl
+
     opened : then_read (with_front (n ∷ []) (more_items starts_name (next_at name_at) (length rest) rest)) (λ all left. Some (targets.Tuple all, left)) ≡ then_read (names_from (n ∷ []) (length rest) rest) (λ all left. Some (targets.Tuple all, left))
     opened = refl
 
@@ -269,4 +270,3 @@ parameters_go ts rest n names s e p = picked _ _ s ∙ found _ e ∙ opened ∙ 
   where
     opened : then_read (more_items starts_name (next_at name_at) (length rest) rest) (λ ns left. Some (n ∷ ns, left)) ≡ names_from (n ∷ []) (length rest) rest
     opened = sym (from_start n (more_items starts_name (next_at name_at) (length rest) rest))
-

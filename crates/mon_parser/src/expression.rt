@@ -9,7 +9,9 @@ ghost use Rattle.mon_parser.specs.Reader.{read_expr};
 use crate::cursor::{Cursor, Sign};
 use crate::grown::{Grown, Parts, compare, conditional, joined, negative, not, tuple, yielded};
 use crate::levels::{Level, Suffix};
-use crate::operand::{asked, comparison_operator, end_ask, end_call, end_subscript, identity, leaf};
+use crate::operand::{
+    asked, comparison_operator, end_ask, end_call, end_subscript, identity, leaf,
+};
 use crate::refusal::Refusal;
 use crate::tree::{Comparison, Expression};
 use std::alloc::Global;
@@ -105,12 +107,7 @@ fn negation(
 
 /// An operand, maybe behind minus signs.
 #[cycle(expression)]
-fn unary(
-    alloc: Global,
-    brackets: usize,
-    nodes: u32,
-    cursor: &mut Cursor,
-) -> Result<Grown, Refusal>
+fn unary(alloc: Global, brackets: usize, nodes: u32, cursor: &mut Cursor) -> Result<Grown, Refusal>
     ensures { Gives (at_unary brackets nodes cursor.old) result cursor.new }
 {
     if nodes == 0 {
