@@ -27,7 +27,6 @@ pub mod Parsing
 pub mod Postfix
 pub mod Prefix
 pub mod Prefixes
-pub mod Results
 pub mod Scanning
 pub mod Signs
 pub mod SimpleSounds

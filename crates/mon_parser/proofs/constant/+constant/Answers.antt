@@ -5,7 +5,7 @@ use Rattle.mon_parser.specs.declared.tree.Constant as const
 use Rattle.mon_parser.specs.declared.tree.Constant.TheViews as consts
 use Rattle.mon_parser.specs.Depth.{const_depth}
 use Rattle.mon_parser.specs.ItemReadings.{further_from}
-use Rattle.mon_parser.proofs.Results.{refuses, runs_out, gives_made, goes_on, stops_there}
+use Rattle.mon_parser.proofs.Giving.{refuses, runs_out, gives_made, goes_on, stops_there}
 use Rattle.mon_parser.proofs.ConstantSteps.{depth_integer, depth_text, depth_single, depth_empty, constant_zero, at_number, at_text, at_minus, at_bracket, at_group, no_bracket, reads_single, reads_number, reads_text, reads_negative, no_number, reads_empty, at_inner, no_inner, not_closed, reads_group, not_negative, negated_fits, negated, no_first, reads_one, at_further, none_turned, further_last, further_none, further_ended, further_missing, further_more}
 use Rattle.mon_parser.proofs.constant.+constant.Goals as goal
 

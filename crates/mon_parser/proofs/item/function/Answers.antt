@@ -1,5 +1,5 @@
 use Rattle.std.proofs.Common.{◌∙◌, arith}
-use Rattle.mon_parser.proofs.Results.{refuses, goes_on, stops_there}
+use Rattle.mon_parser.proofs.Giving.{refuses, goes_on, stops_there}
 use Rattle.mon_parser.proofs.DefSteps.{def_step, function_fits, function_deep}
 use Rattle.mon_parser.proofs.item.function.Goals as goal
 

@@ -1,5 +1,5 @@
 use Rattle.std.proofs.Common.{◌∙◌, arith}
-use Rattle.mon_parser.proofs.Results.{refuses, runs_out}
+use Rattle.mon_parser.proofs.Giving.{refuses, runs_out}
 use Rattle.mon_parser.proofs.ItemSteps.{is_def, is_named, is_text, no_assign, no_value, no_end, reads_constant, too_deep, no_text, no_line, reads_text}
 use Rattle.mon_parser.proofs.item.item.Goals as goal
 
