@@ -1,6 +1,6 @@
 -- Texts, brackets and atoms are read.
-use Rattle.std.proofs.Common.{◌≡◌, ℕ, suc, ◌+◌, ◌<◌, ◌≤◌, List, [], ◌∷◌, ◌++◌, length, refl, sym, ap, ◌∙◌, arith, append_assoc, append-nil, length-append, subst}
-use Rattle.std.specs.Prelude.{Option, Some, None, ⊤, ◌⊎◌}
+use Rattle.std.proofs.Common.{◌≡◌, ℕ, suc, ◌<◌, ◌≤◌, List, [], ◌∷◌, ◌++◌, length, refl, ap, ◌∙◌, arith, append_assoc, length-append}
+use Rattle.std.specs.Prelude.{Some, None, ⊤}
 use Rattle.mon_lexer.specs.declared.token.Token.{Token}
 use Rattle.mon_lexer.specs.declared.token.Kind.{Kind}
 use Rattle.mon_lexer.specs.declared.token.Kind.TheVariants as kind
@@ -8,11 +8,11 @@ use Rattle.mon_lexer.specs.declared.token.Operator.TheVariants as operator
 use Rattle.mon_parser.specs.declared.cursor.Sign.TheVariants as sign
 use Rattle.mon_parser.specs.declared.tree.Expression.{Expression}
 use Rattle.mon_parser.specs.declared.tree.Expression as tree
-use Rattle.mon_parser.specs.Tokens.{mark, symbol, text, single_of}
+use Rattle.mon_parser.specs.Tokens.{symbol}
 use Rattle.mon_parser.specs.Depth.{expr_depth}
-use Rattle.mon_parser.specs.Reader.{Answer, Reader, then_read, choose, next_at, by_option, mark_at, text_at, binds, more_texts, group_from, read_rhs, read_atom}
-use Rattle.mon_parser.specs.Grammar.{IsTexts, texts_one, texts_more, IsSingle, single_word, IsRhs, IsAtom, atom_name, atom_int, atom_texts, atom_single, atom_empty, atom_group, IsExpr}
-use Rattle.mon_parser.proofs.Left.{Stops, stops_more, Reads}
+use Rattle.mon_parser.specs.Reader.{Answer, Reader, then_read, choose, next_at, mark_at, text_at, binds, more_texts, group_from, read_rhs, read_atom}
+use Rattle.mon_parser.specs.Grammar.{IsTexts, texts_one, texts_more, single_word, IsRhs, IsAtom, atom_name, atom_int, atom_texts, atom_single, atom_empty, atom_group, IsExpr}
+use Rattle.mon_parser.proofs.Left.{Stops, Reads}
 use Rattle.mon_parser.proofs.Begins.{rhs_no_close}
 use Rattle.mon_parser.proofs.Tuples.{rhs_reads}
 

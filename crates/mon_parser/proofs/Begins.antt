@@ -1,6 +1,6 @@
 -- With what an expression begins.
-use Rattle.std.proofs.Common.{◌≡◌, ℕ, ◌+◌, ◌<◌, ◌≤◌, List, [], ◌∷◌, ◌++◌, refl, sym, ap, ◌∙◌, arith, subst}
-use Rattle.std.specs.Prelude.{Option, Some, None, ⊤, Bool, true, false, ℤ}
+use Rattle.std.proofs.Common.{◌≡◌, ◌<◌, List, [], ◌∷◌, ◌++◌, refl, arith}
+use Rattle.std.specs.Prelude.{Option, Some, None, ⊤, Bool, true, false}
 use Rattle.mon_lexer.specs.declared.token.Token.{Token}
 use Rattle.mon_lexer.specs.declared.token.Kind.{Kind}
 use Rattle.mon_lexer.specs.declared.token.Kind.TheVariants as kind
@@ -9,8 +9,8 @@ use Rattle.mon_lexer.specs.declared.token.Keyword.TheVariants as word
 use Rattle.mon_parser.specs.declared.cursor.Sign.TheVariants as sign
 use Rattle.mon_parser.specs.declared.tree.Single.{Single}
 use Rattle.mon_parser.specs.declared.tree.Expression.{Expression}
-use Rattle.mon_parser.specs.Tokens.{mark, single_of}
-use Rattle.mon_parser.specs.Reader.{binds, mark_at, starts, starts_kind, is_comma, is_comma_kind, is_yield, next_at}
+use Rattle.mon_parser.specs.Tokens.{single_of}
+use Rattle.mon_parser.specs.Reader.{binds, mark_at, starts, starts_kind, is_comma, is_comma_kind, next_at}
 use Rattle.mon_parser.specs.Grammar.{IsRhs, rhs_yield, rhs_yield_value, rhs_tuple, IsTuple, tuple_one, tuple_tuple, tuple_comma, IsExprs, exprs_one, exprs_more, IsExpr, expr_or, expr_if, IsOr, or_one, or_more, IsAnd, and_one, and_more, IsNot, not_not, not_compare}
 use Rattle.mon_parser.proofs.Left.{Stops}
 use Rattle.mon_parser.proofs.Items.{NoComma}

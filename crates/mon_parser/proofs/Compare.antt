@@ -1,5 +1,5 @@
 -- A comparison is read, whatever follows it that binds less.
-use Rattle.std.proofs.Common.{◌≡◌, ℕ, ◌+◌, ◌<◌, ◌≤◌, max, List, [], ◌∷◌, ◌++◌, length, refl, sym, ap, ◌∙◌, arith, append_assoc, length-append}
+use Rattle.std.proofs.Common.{◌≡◌, ℕ, ◌<◌, ◌≤◌, List, [], ◌∷◌, ◌++◌, length, refl, ap, ◌∙◌, arith, append_assoc, length-append}
 use Rattle.std.specs.Prelude.{Option, Some, None}
 use Rattle.mon_lexer.specs.declared.token.Token.{Token}
 use Rattle.mon_lexer.specs.declared.token.Kind.{Kind}
@@ -14,7 +14,7 @@ use Rattle.mon_parser.specs.declared.tree.Expression.TheViews as node
 use Rattle.mon_parser.specs.Tokens.{mark, key, cmp_op, single_of}
 use Rattle.mon_parser.specs.Depth.{expr_depth}
 use Rattle.mon_parser.specs.Reader.{Answer, Reader, then_read, choose, next_at, by_option, made, binds, compared, compare_from, is_from, read_sum, read_compare}
-use Rattle.mon_parser.specs.Grammar.{IsSum, IsCompare, compare_sum, compare_cmp, compare_is, compare_is_not, IsCmp, cmp_one, cmp_not_in, IsSingle, single_word}
+use Rattle.mon_parser.specs.Grammar.{IsSum, IsCompare, compare_sum, compare_cmp, compare_is, compare_is_not, cmp_one, cmp_not_in, single_word}
 use Rattle.mon_parser.proofs.Depths.{depth_compare, depth_is, depth_is_not}
 use Rattle.mon_parser.proofs.Left.{Stops, stops_more, Reads, made_fits}
 use Rattle.mon_parser.proofs.Prefixes.{single_no_not}

@@ -1,5 +1,5 @@
 -- What is read as a comparison derives.
-use Rattle.std.proofs.Common.{◌≡◌, ℕ, ◌+◌, List, [], ◌∷◌, ◌++◌, refl, sym, ap, ◌∙◌, append_assoc, subst, inl, inr}
+use Rattle.std.proofs.Common.{◌≡◌, ℕ, List, [], ◌∷◌, ◌++◌, refl, sym, ap, ◌∙◌, append_assoc, subst, inl, inr}
 use Rattle.std.specs.Prelude.{Option, Some, None, ⊤, ◌⊎◌}
 use Rattle.mon_lexer.specs.declared.token.Token.{Token}
 use Rattle.mon_lexer.specs.declared.token.Kind.{Kind}
@@ -8,12 +8,11 @@ use Rattle.mon_lexer.specs.declared.token.Keyword.TheVariants as word
 use Rattle.mon_parser.specs.declared.cursor.Sign.TheVariants as sign
 use Rattle.mon_parser.specs.declared.tree.Comparison.{Comparison}
 use Rattle.mon_parser.specs.declared.tree.Comparison.TheVariants as comparison
-use Rattle.mon_parser.specs.declared.tree.Single.{Single}
 use Rattle.mon_parser.specs.declared.tree.Expression.{Expression}
 use Rattle.mon_parser.specs.declared.tree.Expression.TheViews as node
 use Rattle.mon_parser.specs.Tokens.{mark, key, cmp_op, single_of}
 use Rattle.mon_parser.specs.Reader.{Answer, Reader, then_read, choose, next_at, by_option, mark_at, made, compared, compare_from, is_from, read_sum, read_compare}
-use Rattle.mon_parser.specs.Grammar.{IsSum, IsCompare, compare_sum, compare_cmp, compare_is, compare_is_not, IsCmp, cmp_one, cmp_not_in, IsSingle, single_word}
+use Rattle.mon_parser.specs.Grammar.{IsSum, IsCompare, compare_sum, compare_cmp, compare_is, compare_is_not, IsCmp, cmp_one, cmp_not_in, single_word}
 use Rattle.mon_parser.proofs.Left.{Sound, Derived, some_pair, then_was, made_is}
 
 -- what a table says of the next token: that token

@@ -1,6 +1,6 @@
 -- Constants are read, whatever follows them that ends a list.
-use Rattle.std.proofs.Common.{◌≡◌, ℕ, zero, suc, ◌+◌, ◌<◌, ◌≤◌, max, List, [], ◌∷◌, ◌++◌, length, map, refl, sym, ap, ◌∙◌, arith, append_assoc, append-nil, length-append, subst}
-use Rattle.std.specs.Prelude.{Option, Some, None, ⊤, Bool, true, false, pos, neg_ℤ, ℤ}
+use Rattle.std.proofs.Common.{◌≡◌, ℕ, zero, suc, ◌≤◌, List, [], ◌∷◌, ◌++◌, length, map, refl, sym, ap, ◌∙◌, arith, append_assoc, append-nil, length-append, subst}
+use Rattle.std.specs.Prelude.{Some, None, ⊤, true, false}
 use Rattle.mon_lexer.specs.declared.token.Token.{Token}
 use Rattle.mon_lexer.specs.declared.token.Kind.{Kind}
 use Rattle.mon_lexer.specs.declared.token.Kind.TheVariants as kind
@@ -11,11 +11,11 @@ use Rattle.mon_parser.specs.declared.tree.Single.{Single}
 use Rattle.mon_parser.specs.declared.tree.Constant.{Constant}
 use Rattle.mon_parser.specs.declared.tree.Constant as const
 use Rattle.mon_parser.specs.declared.tree.Constant.TheViews as consts
-use Rattle.mon_parser.specs.Tokens.{mark, symbol, single_of}
+use Rattle.mon_parser.specs.Tokens.{symbol, single_of}
 use Rattle.mon_parser.specs.Depth.{const_depth, most}
-use Rattle.mon_parser.specs.Reader.{Answer, Reader, then_read, choose, pick, next_at, by_option, mark_at, within, binds, is_comma, more_items, more_texts}
+use Rattle.mon_parser.specs.Reader.{Answer, Reader, then_read, choose, pick, next_at, mark_at, within, is_comma, more_items}
 use Rattle.mon_parser.specs.Statements.{starts_constant, starts_constant_kind, read_constants, read_constant}
-use Rattle.mon_parser.specs.Grammar.{IsTexts, texts_one, texts_more, IsSingle, single_word, IsConsts, consts_one, consts_tuple, consts_comma, IsConstList, const_list_one, const_list_more, IsConst, const_int, const_negative, const_texts, const_single, const_empty, const_group}
+use Rattle.mon_parser.specs.Grammar.{texts_one, texts_more, single_word, IsConsts, consts_one, consts_tuple, consts_comma, IsConstList, const_list_one, const_list_more, IsConst, const_int, const_negative, const_texts, const_single, const_empty, const_group}
 use Rattle.mon_parser.proofs.Left.{Stops}
 use Rattle.mon_parser.proofs.Items.{Tail, stop, trailing, next, Ends, ReadsItems, tail_reads}
 use Rattle.mon_parser.proofs.Atoms.{texts_end, texts_go_on}

@@ -1,6 +1,6 @@
 -- The depth of each node.
-use Rattle.std.proofs.Common.{◌≡◌, ℕ, ◌+◌, max, List, [], ◌∷◌, ◌++◌, map, refl, sym, ap, ◌∙◌, arith}
-use Rattle.std.specs.Prelude.{Option, Some, None}
+use Rattle.std.proofs.Common.{◌≡◌, ℕ, ◌+◌, max, List, [], ◌∷◌, ◌++◌, map, sym, ap, ◌∙◌, arith}
+use Rattle.std.specs.Prelude.{Some, None}
 use Rattle.mon_parser.specs.declared.tree.BinaryOperator.{BinaryOperator}
 use Rattle.mon_parser.specs.declared.tree.Comparison.{Comparison}
 use Rattle.mon_parser.specs.declared.tree.Single.{Single}

@@ -1,9 +1,8 @@
 -- The readers of expressions, one step each, in the parts that the code reads.
-use Rattle.std.proofs.Common.{◌≡◌, ℕ, ◌+◌, ◌-◌, ◌<◌, ◌≤◌, List, [], ◌∷◌, ◌++◌, length, sym, ap, ◌∙◌, arith, refl, append-nil}
+use Rattle.std.proofs.Common.{◌≡◌, ℕ, ◌+◌, ◌-◌, ◌<◌, ◌≤◌, List, [], ◌∷◌, ◌++◌, length, sym, ap, ◌∙◌, arith, refl}
 use Rattle.std.specs.Prelude.{Option, Some, None, ⊤, ℤ, true, false}
 use Rattle.mon_lexer.specs.declared.token.Token.{Token}
 use Rattle.mon_parser.specs.declared.cursor.Sign.TheVariants as sign
-use Rattle.mon_parser.specs.declared.refusal.Refusal.{Refusal}
 use Rattle.mon_parser.specs.declared.levels.Level.{Level}
 use Rattle.mon_parser.specs.declared.levels.Level.TheVariants as level
 use Rattle.mon_parser.specs.declared.levels.Op.{Op}
@@ -17,12 +16,12 @@ use Rattle.mon_parser.specs.declared.tree.Expression.{Expression}
 use Rattle.mon_parser.specs.declared.tree.Expression as tree
 use Rattle.mon_parser.specs.declared.tree.Expression.TheViews as node
 use Rattle.mon_parser.specs.Tokens.{single_of, cmp_op}
-use Rattle.mon_parser.specs.Depth.{expr_depth, expr_depth_step}
+use Rattle.mon_parser.specs.Depth.{expr_depth}
 use Rattle.mon_parser.specs.Reader.{Answer, Reader, then_read, choose, pick, next_at, mark_at, within, level_op, op_node, suffix_at, method_at, text_at, name_at, number_at, yield_line, starts, is_comma, read_expr, more_items, more_texts}
-use Rattle.mon_parser.specs.Code.{Gives, Made, with_front}
+use Rattle.mon_parser.specs.Code.{with_front}
 use Rattle.mon_parser.specs.Readings.{at_level, below_level, level_from, at_negation, at_unary, at_comparison, behind_comparison, at_postfix, suffixes_from, at_suffix, at_arguments, further_from, at_expressions, at_right_side, at_atom, at_group, leaf_at, identity_at, comparison_at, asked_at, call_ends, subscript_ends, ask_ends}
 use Rattle.mon_parser.proofs.Steps.{within_fits, within_none, expr_step, more_step, more_last, suffixes_turn, suffixes_last, prefix_step, prefix_zero, items_last, items_none, items_ended, items_missing, items_more, from_start}
-use Rattle.mon_parser.proofs.Calls.{found, missed, taken, passed, picked, unpicked, Kept}
+use Rattle.mon_parser.proofs.Calls.{found, missed, taken, passed, picked, Kept}
 
 pub expression_is : (b n : ℕ) (ts : List Token) → 0 < b → 0 < n → read_expr b n ts ≡ then_read (at_level level.Or (b - 1) n ts) (λ a rest. choose (next_at (mark_at sign.If) rest) (Some (a, rest)) (λ is left.
     then_read (at_level level.Or (b - 1) n left) (λ c more. then_read (next_at (mark_at sign.Else) more) (λ is end. then_read (read_expr b (n - 1) end) (λ o z. within expr_depth (node.If a c o) z)))))

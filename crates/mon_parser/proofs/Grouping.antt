@@ -1,20 +1,19 @@
 -- The four levels whose operators group to the left: each reads its derivations, and nothing else, if the level below does.
-use Rattle.std.proofs.Common.{◌≡◌, ℕ, ◌+◌, ◌<◌, ◌≤◌, max, List, [], ◌∷◌, ◌++◌, refl, sym, ap, ◌∙◌, arith, subst}
+use Rattle.std.proofs.Common.{◌≡◌, ℕ, ◌+◌, ◌<◌, ◌≤◌, max, List, refl, ap, arith}
 use Rattle.std.specs.Prelude.{Option, Some, None}
 use Rattle.mon_lexer.specs.declared.token.Token.{Token}
 use Rattle.mon_lexer.specs.declared.token.Kind.{Kind}
 use Rattle.mon_lexer.specs.declared.token.Kind.TheVariants as kind
 use Rattle.mon_lexer.specs.declared.token.Operator.TheVariants as operator
 use Rattle.mon_lexer.specs.declared.token.Keyword.TheVariants as word
-use Rattle.mon_parser.specs.declared.levels.Level.{Level}
 use Rattle.mon_parser.specs.declared.levels.Level.TheVariants as level
 use Rattle.mon_parser.specs.declared.levels.Op.{Op}
 use Rattle.mon_parser.specs.declared.levels.Op.TheVariants as op
 use Rattle.mon_parser.specs.declared.tree.BinaryOperator.{BinaryOperator}
 use Rattle.mon_parser.specs.declared.tree.Expression.{Expression}
-use Rattle.mon_parser.specs.Tokens.{mark, sum_op, term_op}
+use Rattle.mon_parser.specs.Tokens.{sum_op, term_op}
 use Rattle.mon_parser.specs.Depth.{expr_depth}
-use Rattle.mon_parser.specs.Reader.{Reader, binds, binary_op, level_op, op_node, read_left, read_unary, read_term, read_sum, read_not, read_and, read_or}
+use Rattle.mon_parser.specs.Reader.{Reader, binds, binary_op, level_op, op_node, read_unary, read_term, read_sum, read_not, read_and, read_or}
 use Rattle.mon_parser.specs.Grammar.{IsOr, or_one, or_more, IsAnd, and_one, and_more, IsNot, IsSum, sum_one, sum_more, IsTerm, term_one, term_more, IsUnary}
 use Rattle.mon_parser.proofs.Depths.{depth_or, depth_and, depth_binary}
 use Rattle.mon_parser.proofs.Left.{Left, one, more, IsLevel, Reads, Sound, left_reads, left_sound}

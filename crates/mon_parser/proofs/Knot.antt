@@ -1,6 +1,6 @@
 -- Expressions are read: the levels tied together.
-use Rattle.std.proofs.Common.{◌≡◌, ℕ, zero, suc, ◌+◌, ◌-◌, ◌<◌, ◌≤◌, max, List, [], ◌∷◌, ◌++◌, length, refl, sym, ap, ◌∙◌, arith, append_assoc, length-append, subst}
-use Rattle.std.specs.Prelude.{Option, Some, None, ⊤}
+use Rattle.std.proofs.Common.{◌≡◌, ℕ, zero, suc, ◌<◌, ◌≤◌, List, [], ◌∷◌, ◌++◌, length, refl, ap, ◌∙◌, arith, append_assoc, length-append}
+use Rattle.std.specs.Prelude.{Some, None}
 use Rattle.mon_lexer.specs.declared.token.Token.{Token}
 use Rattle.mon_lexer.specs.declared.token.Kind.{Kind}
 use Rattle.mon_lexer.specs.declared.token.Kind.TheVariants as kind
@@ -8,12 +8,11 @@ use Rattle.mon_lexer.specs.declared.token.Keyword.TheVariants as word
 use Rattle.mon_parser.specs.declared.cursor.Sign.TheVariants as sign
 use Rattle.mon_parser.specs.declared.tree.Expression.{Expression}
 use Rattle.mon_parser.specs.declared.tree.Expression.TheViews as node
-use Rattle.mon_parser.specs.Tokens.{mark, key}
+use Rattle.mon_parser.specs.Tokens.{key}
 use Rattle.mon_parser.specs.Depth.{expr_depth}
-use Rattle.mon_parser.specs.Reader.{Answer, Reader, then_read, choose, next_at, mark_at, made, binds, if_from, read_or, read_postfix, read_expr_in, read_expr}
+use Rattle.mon_parser.specs.Reader.{Answer, Reader, then_read, choose, next_at, mark_at, made, binds, if_from, read_or, read_expr_in, read_expr}
 use Rattle.mon_parser.specs.Grammar.{IsOr, IsExpr, expr_or, expr_if}
 use Rattle.mon_parser.proofs.Left.{Stops, stops_more, Reads, made_fits}
-use Rattle.mon_parser.proofs.Prefix.{Begins}
 use Rattle.mon_parser.proofs.Prefixes.{depth_some, unary_reads, not_reads}
 use Rattle.mon_parser.proofs.Grouping.{term_reads, sum_reads, and_reads, or_reads}
 use Rattle.mon_parser.proofs.Compare.{compare_reads}

@@ -1,21 +1,16 @@
 -- Lists of expressions: tuples and arguments are read, and nothing else is.
-use Rattle.std.proofs.Common.{◌≡◌, ℕ, zero, suc, ◌+◌, ◌-◌, ◌<◌, ◌≤◌, max, List, [], ◌∷◌, ◌++◌, length, map, refl, sym, ap, ◌∙◌, arith, append_assoc, append-nil, length-append, subst}
-use Rattle.std.specs.Prelude.{Option, Some, None, ⊤, Bool, true, false}
+use Rattle.std.proofs.Common.{◌≡◌, ℕ, ◌≤◌, List, [], ◌∷◌, ◌++◌, length, map, refl, sym, ap, ◌∙◌, arith, append_assoc, append-nil, length-append, subst}
+use Rattle.std.specs.Prelude.{Some}
 use Rattle.mon_lexer.specs.declared.token.Token.{Token}
-use Rattle.mon_lexer.specs.declared.token.Kind.{Kind}
-use Rattle.mon_lexer.specs.declared.token.Kind.TheVariants as kind
 use Rattle.mon_lexer.specs.declared.token.Operator.TheVariants as operator
-use Rattle.mon_parser.specs.declared.cursor.Sign.TheVariants as sign
 use Rattle.mon_parser.specs.declared.tree.Expression.{Expression}
-use Rattle.mon_parser.specs.declared.tree.Expression.TheViews as node
-use Rattle.mon_parser.specs.Tokens.{mark, symbol}
+use Rattle.mon_parser.specs.Tokens.{symbol}
 use Rattle.mon_parser.specs.Depth.{expr_depth, most}
-use Rattle.mon_parser.specs.Reader.{Answer, Reader, then_read, choose, pick, next_at, mark_at, within, made, binds, starts, is_comma, more_items, read_tuple, read_args}
-use Rattle.mon_parser.specs.Grammar.{IsTuple, tuple_one, tuple_tuple, tuple_comma, IsExprs, exprs_one, exprs_more, IsExpr, IsArgs, args_none, args_some, args_comma}
-use Rattle.mon_parser.proofs.Left.{Stops, stops_more, Reads, Sound, Derived, some_pair, then_was, made_is, made_fits}
-use Rattle.mon_parser.proofs.Items.{Tail, stop, trailing, next, Ends, ReadsItems, tail_reads, tail_sound, DerivedAs}
-use Rattle.mon_parser.proofs.Begins.{expr_starts, stops_none, stops_comma, none_no_comma}
-use Rattle.mon_parser.proofs.Depths.{depth_tuple}
+use Rattle.mon_parser.specs.Reader.{Answer, Reader, then_read, pick, starts, more_items, read_args}
+use Rattle.mon_parser.specs.Grammar.{IsExprs, exprs_one, exprs_more, IsExpr, IsArgs, args_none, args_some, args_comma}
+use Rattle.mon_parser.proofs.Left.{Stops, stops_more, Reads}
+use Rattle.mon_parser.proofs.Items.{Tail, stop, trailing, next, Ends, ReadsItems, tail_reads}
+use Rattle.mon_parser.proofs.Begins.{expr_starts, stops_none, none_no_comma}
 
 -- an expression within the limits
 abbrev pub Small : ℕ → ℕ → List Token → Expression → Type 0

@@ -1,6 +1,6 @@
 -- Names with commas between them: targets and parameters are read, and nothing else is.
-use Rattle.std.proofs.Common.{◌≡◌, ℕ, zero, suc, ◌+◌, ◌<◌, ◌≤◌, List, [], ◌∷◌, ◌++◌, length, refl, sym, ap, ◌∙◌, arith, append_assoc, append-nil, length-append, subst}
-use Rattle.std.specs.Prelude.{Option, Some, None, ⊤, Bool, true, false}
+use Rattle.std.proofs.Common.{◌≡◌, ℕ, List, [], ◌∷◌, ◌++◌, length, refl, ap, ◌∙◌, arith, length-append, subst}
+use Rattle.std.specs.Prelude.{Some, None, true, false}
 use Rattle.mon_lexer.specs.declared.token.Token.{Token}
 use Rattle.mon_lexer.specs.declared.token.Kind.{Kind}
 use Rattle.mon_lexer.specs.declared.token.Kind.TheVariants as kind
@@ -9,8 +9,8 @@ use Rattle.mon_parser.specs.declared.cursor.Sign.TheVariants as sign
 use Rattle.mon_parser.specs.declared.tree.Targets.{Targets}
 use Rattle.mon_parser.specs.declared.tree.Targets.TheVariants as targets
 use Rattle.mon_parser.specs.Tokens.{mark, symbol, name}
-use Rattle.mon_parser.specs.Reader.{Answer, Reader, then_read, pick, next_at, mark_at, name_at, is_comma, is_comma_kind, more_items}
-use Rattle.mon_parser.specs.Statements.{starts_name, starts_name_kind, more_names, read_targets, read_parameters}
+use Rattle.mon_parser.specs.Reader.{Answer, Reader, then_read, pick, next_at, mark_at, name_at, is_comma, is_comma_kind}
+use Rattle.mon_parser.specs.Statements.{starts_name, more_names, read_targets, read_parameters}
 use Rattle.mon_parser.specs.Grammar.{IsNames, names_one, names_more, IsTargets, targets_one, targets_tuple, targets_comma, IsParams, params_none, params_some, params_comma}
 use Rattle.mon_parser.proofs.Left.{some_pair, then_was}
 use Rattle.mon_parser.proofs.Compared.{took}

@@ -1,7 +1,6 @@
 -- An atom with what stands behind it is read.
-use Rattle.std.proofs.Common.{◌≡◌, ℕ, zero, suc, ◌+◌, ◌-◌, ◌<◌, ◌≤◌, max, List, [], ◌∷◌, ◌++◌, length, map, refl, sym, ap, ◌∙◌, arith, append_assoc, length-append, add-one, subst}
-use Rattle.std.specs.Prelude.{Option, Some, None, ⊤}
-use Rattle.std.specs.Str.{bytes_eq}
+use Rattle.std.proofs.Common.{◌≡◌, ℕ, zero, suc, ◌+◌, ◌-◌, ◌<◌, ◌≤◌, List, [], ◌∷◌, ◌++◌, length, map, refl, ap, ◌∙◌, arith, append_assoc, length-append, add-one}
+use Rattle.std.specs.Prelude.{Some, None}
 use Rattle.mon_lexer.specs.declared.token.Token.{Token}
 use Rattle.mon_lexer.specs.declared.token.Kind.{Kind}
 use Rattle.mon_lexer.specs.declared.token.Kind.TheVariants as kind
@@ -12,10 +11,10 @@ use Rattle.mon_parser.specs.declared.levels.Suffix.TheVariants as suffix
 use Rattle.mon_parser.specs.declared.tree.Method.{Method}
 use Rattle.mon_parser.specs.declared.tree.Expression.{Expression}
 use Rattle.mon_parser.specs.declared.tree.Expression.TheViews as node
-use Rattle.mon_parser.specs.Tokens.{mark, symbol, name, method_word}
+use Rattle.mon_parser.specs.Tokens.{mark, symbol}
 use Rattle.mon_parser.specs.Depth.{expr_depth, most}
-use Rattle.mon_parser.specs.Reader.{Answer, Reader, then_read, choose, next_at, by_option, mark_at, made, binds, method_of, method_at, suffix_at, read_args, read_atom, read_suffix, more_suffixes, read_postfix}
-use Rattle.mon_parser.specs.Grammar.{IsAtom, IsPostfix, postfix_atom, postfix_call, postfix_subscript, postfix_method, IsArgs, IsMethod, method_send, method_throw, method_close, IsExpr}
+use Rattle.mon_parser.specs.Reader.{Answer, Reader, then_read, choose, next_at, mark_at, made, binds, method_of, method_at, suffix_at, read_args, read_atom, read_suffix, more_suffixes, read_postfix}
+use Rattle.mon_parser.specs.Grammar.{IsPostfix, postfix_atom, postfix_call, postfix_subscript, postfix_method, IsArgs, IsMethod, method_send, method_throw, method_close, IsExpr}
 use Rattle.mon_parser.proofs.Left.{Stops, stops_more, Reads, made_fits}
 use Rattle.mon_parser.proofs.Lists.{args_reads}
 use Rattle.mon_parser.proofs.Atoms.{atom_reads}

@@ -1,12 +1,12 @@
 -- A level whose operator stands in front: "-" and "not". The reader of one of them, stated once over its mark and its node.
-use Rattle.std.proofs.Common.{◌≡◌, ℕ, zero, suc, ◌+◌, ◌-◌, ◌<◌, ◌≤◌, max, List, [], ◌∷◌, ◌++◌, length, refl, sym, ap, ◌∙◌, arith, append_assoc, subst}
+use Rattle.std.proofs.Common.{◌≡◌, ℕ, zero, suc, ◌+◌, ◌<◌, ◌≤◌, List, [], ◌∷◌, ◌++◌, length, refl, sym, ap, ◌∙◌, arith, subst}
 use Rattle.std.specs.Prelude.{Option, Some, None, ⊤}
 use Rattle.mon_lexer.specs.declared.token.Token.{Token}
 use Rattle.mon_lexer.specs.declared.token.Kind.{Kind}
 use Rattle.mon_parser.specs.declared.tree.Expression.{Expression}
 use Rattle.mon_parser.specs.Tokens.{mark}
 use Rattle.mon_parser.specs.Depth.{expr_depth}
-use Rattle.mon_parser.specs.Reader.{Answer, Reader, then_read, choose, next_at, by_option, made, binds, read_prefix}
+use Rattle.mon_parser.specs.Reader.{Answer, Reader, then_read, choose, next_at, by_option, made, read_prefix}
 use Rattle.mon_parser.proofs.Left.{Stops, Reads, Sound, Derived, made_fits, made_is, then_was}
 
 -- the first token is none of these

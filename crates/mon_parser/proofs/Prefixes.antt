@@ -1,5 +1,5 @@
 -- "-" and "not" are levels with the operator in front.
-use Rattle.std.proofs.Common.{◌≡◌, ℕ, ◌+◌, ◌<◌, ◌≤◌, List, [], ◌∷◌, ◌++◌, refl, sym, ap, ◌∙◌, arith, subst}
+use Rattle.std.proofs.Common.{◌≡◌, ℕ, ◌<◌, ◌≤◌, List, [], ◌∷◌, ◌++◌, refl, sym, arith, subst}
 use Rattle.std.specs.Prelude.{Option, Some, None, ⊤, ℤ, pos}
 use Rattle.mon_lexer.specs.declared.token.Token.{Token}
 use Rattle.mon_lexer.specs.declared.token.Kind.{Kind}
@@ -11,10 +11,10 @@ use Rattle.mon_parser.specs.declared.tree.Expression.{Expression}
 use Rattle.mon_parser.specs.declared.tree.Expression.TheOpen.{Expression-F}
 use Rattle.mon_parser.specs.declared.tree.Expression.TheFolds.{fold-roll-Expression, map-Expression}
 use Rattle.mon_parser.specs.declared.tree.Expression.TheViews as node
-use Rattle.mon_parser.specs.Tokens.{mark, single_of}
+use Rattle.mon_parser.specs.Tokens.{single_of}
 use Rattle.mon_parser.specs.Depth.{expr_depth, expr_depth_step}
 use Rattle.mon_parser.specs.Reader.{Reader, mark_at, read_unary, read_postfix, read_not, read_compare}
-use Rattle.mon_parser.specs.Grammar.{IsTexts, texts_one, texts_more, IsSingle, single_word, IsNot, not_not, not_compare, IsCompare, compare_sum, compare_cmp, compare_is, compare_is_not, IsSum, sum_one, sum_more, IsTerm, term_one, term_more, IsUnary, unary_minus, unary_postfix, IsPostfix, postfix_atom, postfix_call, postfix_subscript, postfix_method, IsAtom, atom_name, atom_int, atom_texts, atom_single, atom_empty, atom_group}
+use Rattle.mon_parser.specs.Grammar.{IsTexts, texts_one, texts_more, single_word, IsNot, not_not, not_compare, IsCompare, compare_sum, compare_cmp, compare_is, compare_is_not, IsSum, sum_one, sum_more, IsTerm, term_one, term_more, IsUnary, unary_minus, unary_postfix, IsPostfix, postfix_atom, postfix_call, postfix_subscript, postfix_method, IsAtom, atom_name, atom_int, atom_texts, atom_single, atom_empty, atom_group}
 use Rattle.mon_parser.specs.declared.cursor.Sign.TheVariants as sign
 use Rattle.mon_parser.proofs.Depths.{depth_negative, depth_not}
 use Rattle.mon_parser.proofs.Left.{Reads, Sound}

@@ -1,5 +1,5 @@
 -- What is read as an expression derives: the levels tied together.
-use Rattle.std.proofs.Common.{◌≡◌, ℕ, zero, suc, ◌+◌, List, [], ◌∷◌, ◌++◌, length, refl, sym, ap, ◌∙◌, append_assoc, append-nil, subst}
+use Rattle.std.proofs.Common.{◌≡◌, ℕ, zero, suc, List, [], ◌∷◌, ◌++◌, refl, sym, ap, ◌∙◌, append_assoc, subst}
 use Rattle.std.specs.Prelude.{Option, Some, None, ⊤, Bool, true, false, cond}
 use Rattle.std.specs.Str.{bytes_eq}
 use Rattle.std.proofs.lemmas.Slice.Eq.{bytes_eq-Decides}
@@ -16,11 +16,10 @@ use Rattle.mon_parser.specs.declared.tree.Method.TheVariants.{Send, Throw, Close
 use Rattle.mon_parser.specs.declared.tree.Expression.{Expression}
 use Rattle.mon_parser.specs.declared.tree.Expression.TheViews as node
 use Rattle.mon_parser.specs.Tokens.{mark, key, symbol, name, method_word}
-use Rattle.mon_parser.specs.Reader.{Answer, Reader, then_read, choose, next_at, by_option, mark_at, made, method_of, method_at, suffix_at, read_args, read_atom, read_suffix, more_suffixes, read_postfix, if_from, read_or, read_expr_in, read_expr}
-use Rattle.mon_parser.specs.Grammar.{IsPostfix, postfix_atom, postfix_call, postfix_subscript, postfix_method, IsArgs, IsMethod, method_send, method_throw, method_close, IsOr, IsExpr, expr_or, expr_if}
+use Rattle.mon_parser.specs.Reader.{Reader, then_read, next_at, mark_at, made, method_of, method_at, suffix_at, read_args, read_atom, read_suffix, more_suffixes, read_postfix, if_from, read_or, read_expr_in, read_expr}
+use Rattle.mon_parser.specs.Grammar.{IsPostfix, postfix_atom, postfix_call, postfix_subscript, postfix_method, IsMethod, method_send, method_throw, method_close, IsOr, IsExpr, expr_or, expr_if}
 use Rattle.mon_parser.proofs.Left.{Sound, Derived, some_pair, then_was, made_is}
-use Rattle.mon_parser.proofs.Compared.{Took, took, Chose, chose_other, chose_some, chose, compare_sound}
-use Rattle.mon_parser.proofs.Items.{DerivedAs}
+use Rattle.mon_parser.proofs.Compared.{took, Chose, chose_other, chose_some, chose, compare_sound}
 use Rattle.mon_parser.proofs.Prefixes.{unary_sound, not_sound}
 use Rattle.mon_parser.proofs.Grouping.{term_sound, sum_sound, and_sound, or_sound}
 use Rattle.mon_parser.proofs.Sounds.{args_derive, atom_derives, close_is, open_is}

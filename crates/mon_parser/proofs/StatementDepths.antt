@@ -1,12 +1,12 @@
 -- The depth of each statement, handler and constant.
-use Rattle.std.proofs.Common.{◌≡◌, ℕ, ◌+◌, max, List, [], ◌∷◌, ◌++◌, map, refl, sym, ap, ◌∙◌, arith}
+use Rattle.std.proofs.Common.{◌≡◌, ℕ, ◌+◌, max, List, [], ◌∷◌, ◌++◌, map, sym, ap, ◌∙◌, arith}
 use Rattle.std.specs.Prelude.{Option, Some, None}
 use Rattle.mon_parser.specs.declared.tree.Expression.{Expression}
 use Rattle.mon_parser.specs.declared.tree.Targets.{Targets}
 use Rattle.mon_parser.specs.declared.tree.Simple.{Simple}
 use Rattle.mon_parser.specs.declared.tree.Statement.{Statement}
 use Rattle.mon_parser.specs.declared.tree.Statement as stmt
-use Rattle.mon_parser.specs.declared.tree.Statement.TheOpen.{Statement-F, Handler-F}
+use Rattle.mon_parser.specs.declared.tree.Statement.TheOpen.{Statement-F}
 use Rattle.mon_parser.specs.declared.tree.Statement.TheFolds.{fold-roll-Statement, fold-roll-Handler}
 use Rattle.mon_parser.specs.declared.tree.Statement.TheViews as compound
 use Rattle.mon_parser.specs.declared.tree.Handler.{Handler}

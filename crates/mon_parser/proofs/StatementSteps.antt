@@ -1,21 +1,19 @@
 -- The readers of statements, one step each, in the parts that the code reads.
 use Rattle.std.proofs.Common.{◌≡◌, ℕ, zero, suc, ◌+◌, ◌-◌, ◌<◌, ◌≤◌, List, [], ◌∷◌, ◌++◌, length, refl, sym, ap, ◌∙◌, arith, append_assoc, append-nil}
-use Rattle.std.specs.Prelude.{Option, Some, None, Bool, true, false, ⊤, neg_ℤ}
+use Rattle.std.specs.Prelude.{Some, None, Bool, true, false, ⊤}
 use Rattle.mon_lexer.specs.declared.token.Token.{Token}
 use Rattle.mon_parser.specs.declared.cursor.Sign.TheVariants as sign
-use Rattle.mon_parser.specs.declared.tree.Expression.{Expression}
 use Rattle.mon_parser.specs.declared.tree.Targets.TheVariants as targets
-use Rattle.mon_parser.specs.declared.tree.Simple.{Simple}
 use Rattle.mon_parser.specs.declared.tree.Simple.TheVariants as simple
 use Rattle.mon_parser.specs.declared.tree.Statement.{Statement}
 use Rattle.mon_parser.specs.declared.tree.Statement as stmt
 use Rattle.mon_parser.specs.declared.tree.Statement.TheViews as compound
 use Rattle.mon_parser.specs.declared.tree.Handler.{Handler}
-use Rattle.mon_parser.specs.Tokens.{first_line, single_of, augmented_op}
-use Rattle.mon_parser.specs.Depth.{stmt_depth, const_depth}
+use Rattle.mon_parser.specs.Tokens.{first_line, augmented_op}
+use Rattle.mon_parser.specs.Depth.{stmt_depth}
 use Rattle.mon_parser.specs.Grammar.{handler}
-use Rattle.mon_parser.specs.Reader.{Answer, Reader, then_read, choose, pick, next_at, mark_at, name_at, number_at, text_at, within, more_texts, more_items, is_comma, starts, read_expr}
-use Rattle.mon_parser.specs.Statements.{starts_name, maybe, read_targets, read_parameters, read_simple, read_line, read_statement, read_statements, read_body, read_as, read_handlers, read_constant, read_constants, starts_constant, block_at, is_none}
+use Rattle.mon_parser.specs.Reader.{Answer, then_read, choose, pick, next_at, mark_at, name_at, within, more_items, is_comma, starts, read_expr}
+use Rattle.mon_parser.specs.Statements.{starts_name, read_targets, read_parameters, read_statement, read_statements, read_as, read_handlers, is_none}
 use Rattle.mon_parser.proofs.Steps.{items_last, items_none, items_ended, items_missing, items_more, from_start}
 use Rattle.mon_parser.proofs.Calls.{found, taken, passed, picked, unpicked}
 use Rattle.mon_parser.specs.Code.{with_front}

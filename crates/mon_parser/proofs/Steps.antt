@@ -1,16 +1,14 @@
 -- Single steps of the readers, as the code takes them.
-use Rattle.std.proofs.Common.{◌≡◌, ℕ, zero, suc, ◌+◌, ◌-◌, ◌<◌, ◌≤◌, List, [], ◌∷◌, ◌++◌, length, refl, sym, ap, ◌∙◌, arith, add-one, append_assoc, append-nil, le-leb}
-use Rattle.std.specs.Prelude.{Option, Some, None, Bool, true, false, leb, ⊤}
+use Rattle.std.proofs.Common.{◌≡◌, ℕ, zero, suc, ◌+◌, ◌-◌, ◌<◌, ◌≤◌, List, [], ◌∷◌, ◌++◌, length, refl, sym, ap, arith, append_assoc, append-nil, le-leb}
+use Rattle.std.specs.Prelude.{Option, Some, None, Bool, true, false, ⊤}
 use Rattle.std.proofs.lemmas.Bool.{lt-leb}
 use Rattle.mon_lexer.specs.declared.token.Token.{Token}
 use Rattle.mon_lexer.specs.declared.token.Kind.{Kind}
 use Rattle.mon_parser.specs.declared.cursor.Sign.TheVariants as sign
 use Rattle.mon_parser.specs.declared.tree.Expression.{Expression}
-use Rattle.mon_parser.specs.declared.tree.Expression.TheViews as node
-use Rattle.mon_parser.specs.Depth.{expr_depth}
 use Rattle.mon_parser.specs.Reader.{Answer, Reader, Mark, then_read, choose, pick, next_at, by_option, mark_at, if_fits, within, made, text_at, suffix_at, read_more, more_texts, more_items, more_suffixes, read_suffix, read_prefix, read_or, if_from, read_expr_in, read_expr}
 use Rattle.mon_parser.specs.Code.{with_front}
-use Rattle.mon_parser.proofs.Left.{then_some, choose_other, choose_some, some_pair}
+use Rattle.mon_parser.proofs.Left.{some_pair}
 
 pub then_none : {A B : Type 0} (read : Answer A) (go : A → List Token → Answer B) → read ≡ None → then_read read go ≡ None
 unfolding then_read

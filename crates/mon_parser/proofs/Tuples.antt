@@ -1,5 +1,5 @@
 -- Tuples and right sides are read, whatever follows them that ends an expression.
-use Rattle.std.proofs.Common.{◌≡◌, ℕ, ◌+◌, ◌<◌, ◌≤◌, max, List, [], ◌∷◌, ◌++◌, length, map, refl, sym, ap, ◌∙◌, arith, append_assoc, length-append, subst}
+use Rattle.std.proofs.Common.{◌≡◌, ℕ, ◌≤◌, List, [], ◌∷◌, ◌++◌, length, map, refl, sym, ap, ◌∙◌, arith, append_assoc, length-append, subst}
 use Rattle.std.specs.Prelude.{Option, Some, None, ⊤, Bool, true, false}
 use Rattle.mon_lexer.specs.declared.token.Token.{Token}
 use Rattle.mon_lexer.specs.declared.token.Kind.{Kind}
@@ -9,15 +9,15 @@ use Rattle.mon_lexer.specs.declared.token.Keyword.TheVariants as word
 use Rattle.mon_parser.specs.declared.tree.Single.{Single}
 use Rattle.mon_parser.specs.declared.tree.Expression.{Expression}
 use Rattle.mon_parser.specs.declared.tree.Expression.TheViews as node
-use Rattle.mon_parser.specs.Tokens.{mark, key, symbol, single_of}
+use Rattle.mon_parser.specs.Tokens.{symbol, single_of}
 use Rattle.mon_parser.specs.Depth.{expr_depth, most}
-use Rattle.mon_parser.specs.Reader.{Answer, Reader, then_read, choose, pick, made, binds, starts, is_comma, is_comma_kind, is_yield, yield_line, more_items, read_tuple, read_rhs}
+use Rattle.mon_parser.specs.Reader.{Answer, Reader, then_read, choose, pick, made, starts, is_comma, is_comma_kind, is_yield, yield_line, more_items, read_tuple, read_rhs}
 use Rattle.mon_parser.specs.Grammar.{IsRhs, rhs_yield, rhs_yield_value, rhs_tuple, IsTuple, tuple_one, tuple_tuple, tuple_comma, IsExprs, exprs_one, exprs_more, IsExpr}
 use Rattle.mon_parser.proofs.Left.{Stops, stops_more, Reads, made_fits}
 use Rattle.mon_parser.proofs.Prefix.{Begins}
-use Rattle.mon_parser.proofs.Items.{Tail, stop, trailing, next}
-use Rattle.mon_parser.proofs.Begins.{NoStart, expr_starts, tuple_starts, tuple_begins, stops_none, stops_comma, by_start}
-use Rattle.mon_parser.proofs.Lists.{Small, First, first_of_list, first_comma, to_tail, tail_comes, tail_stops}
+use Rattle.mon_parser.proofs.Items.{Tail}
+use Rattle.mon_parser.proofs.Begins.{NoStart, tuple_starts, tuple_begins, stops_none, stops_comma}
+use Rattle.mon_parser.proofs.Lists.{Small, First, first_comma, to_tail, tail_comes, tail_stops}
 use Rattle.mon_parser.proofs.Depths.{depth_tuple, depth_yield_some}
 
 -- a tail that is not empty begins with a comma

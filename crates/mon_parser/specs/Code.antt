@@ -1,5 +1,5 @@
 -- What calls of the code do.
-use Rattle.std.specs.Prelude.{◌≡◌, ◌<◌, ◌≤◌, List, ◌++◌, ℕ, Option, Some, None, Result, MatchResult}
+use Rattle.std.specs.Prelude.{◌≡◌, ◌<◌, ◌≤◌, List, ◌++◌, ℕ, Some, None, Result, MatchResult}
 use Rattle.mon_lexer.specs.declared.token.Token.{Token}
 use Rattle.mon_parser.specs.declared.refusal.Refusal.{Refusal}
 use Rattle.mon_parser.specs.declared.refusal.Refusal.TheVariants.{Syntax}

@@ -1,17 +1,15 @@
 -- A reader of expressions, which looks at one token at a time. It says what the code does; that it reads each derivation, and nothing else, is proved.
-use Rattle.std.specs.Prelude.{ℕ, ℤ, pos, zero, suc, ◌+◌, List, [], ◌∷◌, ◌++◌, length, Option, Some, None, Bool, true, false, leb, find, ⊤}
+use Rattle.std.specs.Prelude.{ℕ, ℤ, pos, zero, suc, List, [], ◌∷◌, ◌++◌, length, Option, Some, None, Bool, true, false, leb, find, ⊤}
 use Rattle.std.specs.Str.{bytes_eq}
 use Rattle.mon_lexer.specs.declared.token.Token.{Token}
 use Rattle.mon_lexer.specs.declared.token.Kind.{Kind}
 use Rattle.mon_lexer.specs.declared.token.Kind.TheVariants as kind
-use Rattle.mon_lexer.specs.declared.token.Keyword.{Keyword}
 use Rattle.mon_lexer.specs.declared.token.Operator.TheVariants as operator
 use Rattle.mon_lexer.specs.declared.token.Keyword.TheVariants as word
 use Rattle.mon_parser.specs.declared.tree.BinaryOperator.{BinaryOperator}
 use Rattle.mon_parser.specs.declared.tree.Expression.{Expression}
 use Rattle.mon_parser.specs.declared.tree.Expression as tree
 use Rattle.mon_parser.specs.declared.tree.Expression.TheViews as node
-use Rattle.mon_parser.specs.declared.tree.Single.{Single}
 use Rattle.mon_parser.specs.declared.tree.Comparison.{Comparison}
 use Rattle.mon_parser.specs.declared.tree.Comparison.TheVariants as comparison
 use Rattle.mon_parser.specs.declared.levels.Level.{Level}

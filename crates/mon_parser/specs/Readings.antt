@@ -1,6 +1,5 @@
 -- The readers of expressions by what the code's functions read, with so many brackets and nodes left. They are closed, so that a proof about a call does not look into it.
 use Rattle.std.specs.Prelude.{ℕ, ◌-◌, List, Option, Some, None}
-use Rattle.mon_lexer.specs.declared.token.Token.{Token}
 use Rattle.mon_parser.specs.declared.cursor.Sign.TheVariants as sign
 use Rattle.mon_parser.specs.declared.tree.Expression.{Expression}
 use Rattle.mon_parser.specs.declared.tree.Expression as tree

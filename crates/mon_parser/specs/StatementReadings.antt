@@ -1,6 +1,5 @@
 -- The readers of statements by what the code's functions read, closed in the same way.
 use Rattle.std.specs.Prelude.{ℕ, List, [], ◌∷◌, ◌++◌, Some, None, Bool}
-use Rattle.mon_lexer.specs.declared.token.Token.{Token}
 use Rattle.mon_parser.specs.declared.tree.Simple.{Simple}
 use Rattle.mon_parser.specs.declared.tree.Simple.TheVariants as simple
 use Rattle.mon_parser.specs.declared.tree.Statement.{Statement}

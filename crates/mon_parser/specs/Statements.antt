@@ -1,11 +1,10 @@
 -- A reader of statements, constants and items, over that of expressions.
-use Rattle.std.specs.Prelude.{ℕ, zero, suc, ◌+◌, List, [], ◌∷◌, length, Option, Some, None, Bool, true, false, neg_ℤ}
+use Rattle.std.specs.Prelude.{ℕ, zero, suc, List, [], ◌∷◌, length, Option, Some, None, Bool, true, false, neg_ℤ}
 use Rattle.mon_lexer.specs.declared.token.Token.{Token}
 use Rattle.mon_lexer.specs.declared.token.Kind.{Kind}
 use Rattle.mon_lexer.specs.declared.token.Kind.TheVariants as kind
 use Rattle.mon_lexer.specs.declared.token.Operator.TheVariants as operator
 use Rattle.mon_lexer.specs.declared.token.Keyword.TheVariants as word
-use Rattle.mon_parser.specs.declared.cursor.Sign.{Sign}
 use Rattle.mon_parser.specs.declared.cursor.Sign.TheVariants as sign
 use Rattle.mon_parser.specs.declared.tree.Expression.{Expression}
 use Rattle.mon_parser.specs.declared.tree.Constant.{Constant}
@@ -24,7 +23,7 @@ use Rattle.mon_parser.specs.declared.tree.ModuleItem.TheVariants as item
 use Rattle.mon_parser.specs.Tokens.{first_line, single_of, augmented_op}
 use Rattle.mon_parser.specs.Depth.{const_depth, stmt_depth, item_depth}
 use Rattle.mon_parser.specs.Grammar.{handler}
-use Rattle.mon_parser.specs.Reader.{Answer, Reader, then_read, choose, pick, next_at, is_comma, within, mark_at, name_at, number_at, text_at, starts, more_items, more_texts, read_tuple, read_rhs, read_expr}
+use Rattle.mon_parser.specs.Reader.{Reader, then_read, choose, pick, next_at, is_comma, within, mark_at, name_at, number_at, text_at, starts, more_items, more_texts, read_tuple, read_rhs, read_expr}
 
 -- whether a name comes next
 abbrev pub starts_name_kind : Kind → Bool

@@ -1,6 +1,6 @@
-use Rattle.std.proofs.Common.{◌≡◌, ◌++◌, ◌∷◌, [], Some, None, sym, ap, ◌∙◌, arith, false, true}
-use Rattle.mon_parser.proofs.Giving.{refuses, runs_out, gives_made}
-use Rattle.mon_parser.proofs.Calls.{found, missed, taken, passed, picked, unpicked, after, gives_by}
+use Rattle.std.proofs.Common.{Some, sym, ap, ◌∙◌}
+use Rattle.mon_parser.proofs.Giving.{refuses, runs_out}
+use Rattle.mon_parser.proofs.Calls.{found, missed}
 use Rattle.mon_parser.proofs.StatementSteps.{block_line_is}
 use Rattle.mon_parser.proofs.statement.block_on_line.Goals as goal
 

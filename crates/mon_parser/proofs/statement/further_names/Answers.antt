@@ -1,5 +1,5 @@
-use Rattle.std.proofs.Common.{◌≡◌, ◌++◌, ◌∷◌, [], Some, None, sym, ap, ◌∙◌, arith, false, true}
-use Rattle.mon_parser.proofs.Giving.{refuses, runs_out, gives_made}
+use Rattle.std.proofs.Common.{sym, ap, ◌∙◌, arith}
+use Rattle.mon_parser.proofs.Giving.{refuses, runs_out}
 use Rattle.mon_parser.specs.StatementReadings.{names_from}
 use Rattle.mon_parser.proofs.StatementSteps.{names_start, names_alone, names_comma, names_missing, names_more, names_end}
 use Rattle.mon_parser.proofs.statement.further_names.Goals as goal

@@ -1,6 +1,6 @@
-use Rattle.std.proofs.Common.{◌≡◌, ◌++◌, ◌∷◌, [], Some, None, sym, ap, ◌∙◌, arith, false, true}
-use Rattle.mon_parser.proofs.Giving.{refuses, runs_out, gives_made}
-use Rattle.mon_parser.proofs.Calls.{found, missed, taken, passed, picked, unpicked, after, gives_by}
+use Rattle.std.proofs.Common.{Some, None, sym, ap, ◌∙◌}
+use Rattle.mon_parser.proofs.Giving.{refuses}
+use Rattle.mon_parser.proofs.Calls.{found, missed, taken, passed}
 use Rattle.mon_parser.proofs.statement.name_after_as.Goals as goal
 
 pub returns-then-not-take : goal.returns-then-not-take

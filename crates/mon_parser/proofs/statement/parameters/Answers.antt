@@ -1,6 +1,6 @@
-use Rattle.std.proofs.Common.{◌≡◌, ◌++◌, ◌∷◌, [], Some, None, sym, ap, ◌∙◌, arith, false, true}
-use Rattle.mon_parser.proofs.Giving.{refuses, runs_out, gives_made}
-use Rattle.mon_parser.proofs.Calls.{found, missed, taken, passed, picked, unpicked, after, gives_by}
+use Rattle.std.proofs.Common.{◌≡◌, ◌++◌, ◌∷◌, [], Some, sym, ap, ◌∙◌, false, true}
+use Rattle.mon_parser.proofs.Giving.{refuses, runs_out}
+use Rattle.mon_parser.proofs.Calls.{missed, picked, unpicked, gives_by}
 use Rattle.mon_parser.specs.Statements.{starts_name}
 use Rattle.mon_parser.proofs.StatementSteps.{parameters_go}
 use Rattle.mon_parser.proofs.statement.parameters.Goals as goal

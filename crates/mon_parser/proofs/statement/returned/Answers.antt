@@ -1,6 +1,6 @@
-use Rattle.std.proofs.Common.{◌≡◌, ◌++◌, ◌∷◌, [], Some, None, sym, ap, ◌∙◌, arith, false, true}
-use Rattle.mon_parser.proofs.Giving.{refuses, runs_out, gives_made}
-use Rattle.mon_parser.proofs.Calls.{found, missed, taken, passed, picked, unpicked, after, gives_by}
+use Rattle.std.proofs.Common.{◌≡◌, Some, sym, ap, ◌∙◌, false, true}
+use Rattle.mon_parser.proofs.Giving.{refuses}
+use Rattle.mon_parser.proofs.Calls.{found, missed}
 use Rattle.mon_parser.specs.declared.tree.Simple.TheVariants as simple
 use Rattle.mon_parser.specs.Reader.{starts}
 use Rattle.mon_parser.proofs.StatementSteps.{returned_none, returned_is}

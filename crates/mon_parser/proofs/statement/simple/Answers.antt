@@ -1,7 +1,5 @@
-use Rattle.std.proofs.Common.{◌≡◌, ◌++◌, ◌∷◌, [], Some, None, sym, ap, ◌∙◌, arith, false, true}
-use Rattle.mon_parser.proofs.Giving.{refuses, runs_out, gives_made}
-use Rattle.mon_parser.proofs.Calls.{found, missed, taken, passed, picked, unpicked, after, gives_by}
-use Rattle.mon_parser.specs.declared.tree.Simple.TheVariants as simple
+use Rattle.std.proofs.Common.{Some, sym, ap, ◌∙◌}
+use Rattle.mon_parser.proofs.Calls.{taken, passed, after, gives_by}
 use Rattle.mon_parser.specs.StatementReadings.{at_assignment_or_value}
 use Rattle.mon_parser.proofs.StatementSteps.{simple_is}
 use Rattle.mon_parser.proofs.statement.simple.Goals as goal

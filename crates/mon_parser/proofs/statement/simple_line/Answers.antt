@@ -1,6 +1,6 @@
-use Rattle.std.proofs.Common.{◌≡◌, ◌++◌, ◌∷◌, [], Some, None, sym, ap, ◌∙◌, arith, false, true}
-use Rattle.mon_parser.proofs.Giving.{refuses, runs_out, gives_made}
-use Rattle.mon_parser.proofs.Calls.{found, missed, taken, passed, picked, unpicked, after, gives_by}
+use Rattle.std.proofs.Common.{sym, ap, ◌∙◌, arith}
+use Rattle.mon_parser.proofs.Giving.{refuses, gives_made}
+use Rattle.mon_parser.proofs.Calls.{found, missed}
 use Rattle.mon_parser.specs.declared.tree.Statement as stmt
 use Rattle.mon_parser.specs.Depth.{stmt_depth}
 use Rattle.mon_parser.specs.Reader.{within}

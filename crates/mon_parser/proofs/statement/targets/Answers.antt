@@ -1,6 +1,6 @@
-use Rattle.std.proofs.Common.{◌≡◌, ◌++◌, ◌∷◌, [], Some, None, sym, ap, ◌∙◌, arith, false, true}
-use Rattle.mon_parser.proofs.Giving.{refuses, runs_out, gives_made}
-use Rattle.mon_parser.proofs.Calls.{found, missed, taken, passed, picked, unpicked, after, gives_by}
+use Rattle.std.proofs.Common.{◌≡◌, ◌++◌, ◌∷◌, [], ap, ◌∙◌, false, true}
+use Rattle.mon_parser.proofs.Giving.{refuses, runs_out}
+use Rattle.mon_parser.proofs.Calls.{found, missed, unpicked}
 use Rattle.mon_parser.specs.Reader.{is_comma}
 use Rattle.mon_parser.proofs.StatementSteps.{targets_go}
 use Rattle.mon_parser.proofs.statement.targets.Goals as goal
