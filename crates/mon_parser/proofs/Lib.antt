@@ -39,3 +39,4 @@ pub mod StatementSteps
 pub mod Steps
 pub mod Trees
 pub mod Tuples
+pub mod Texts

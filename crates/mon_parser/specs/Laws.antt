@@ -1,5 +1,5 @@
 -- Laws of the grammar.
-use Rattle.std.specs.Prelude.{◌≡◌, ◌≤◌, List, Result, Err}
+use Rattle.std.specs.Prelude.{◌≡◌, ◌≤◌, ℕ, List, Result, Err}
 use Rattle.mon_lexer.specs.declared.token.Token.{Token}
 use Rattle.mon_lexer.specs.declared.token.Item.{Item}
 use Rattle.mon_parser.specs.declared.parser.SyntaxFault.{SyntaxFault}
@@ -11,6 +11,7 @@ use Rattle.mon_parser.specs.Depth.{expr_depth, item_depth}
 use Rattle.mon_parser.specs.Grammar.{IsExpr, IsItem}
 use Rattle.mon_parser.specs.Nesting.{item_nest}
 use Rattle.mon_parser.specs.Derives.{Derives, ParsedAs}
+use Rattle.mon_parser.specs.Texts.{Reading, ReadAs}
 
 -- an expression has at most one tree of at most 256 nodes in depth
 abbrev pub ExpressionOnce : Type 0
@@ -27,3 +28,11 @@ ItemLimits = (tokens : List Token) (tree : ModuleItem) (derivation : IsItem toke
 -- what a text's items are parsed as is determined by the items, unless memory runs out
 abbrev pub ParsedOnce : Type 0
 ParsedOnce = (items : List Item) (one other : Result Module SyntaxFault) → ParsedAs items one → ParsedAs items other → ¬ (one ≡ Err Memory) → ¬ (other ≡ Err Memory) → one ≡ other
+
+-- every text is read as something
+abbrev pub EveryTextRead : Type 0
+EveryTextRead = (bytes : List ℕ) → (reading : Reading) × ReadAs bytes reading
+
+-- and as one thing alone
+abbrev pub TextsReadOnce : Type 0
+TextsReadOnce = (bytes : List ℕ) (one other : Reading) → ReadAs bytes one → ReadAs bytes other → one ≡ other

@@ -9,4 +9,5 @@ pub mod Readings
 pub mod StatementReadings
 pub mod ItemReadings
 pub mod Code
+pub mod Texts
 pub mod Laws

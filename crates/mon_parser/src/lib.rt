@@ -15,7 +15,10 @@ mod refusal;
 mod statement;
 pub mod tree;
 
-pub use laws::{expression_derives_once, item_derives_once, item_keeps_limits, items_parse_once};
+pub use laws::{
+    every_text_is_read, expression_derives_once, item_derives_once, item_keeps_limits,
+    items_parse_once, texts_are_read_once,
+};
 pub use parser::{SyntaxFault, parse};
 
 #[cfg(test)]
