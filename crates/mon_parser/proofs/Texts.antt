@@ -1,6 +1,7 @@
 -- Every text is read as one thing: the items of a module each have a tree, or there is a first one that has none.
 use Rattle.std.proofs.Common.{◌≡◌, ℕ, ◌+◌, ◌<◌, ◌≤◌, List, [], ◌∷◌, ◌++◌, length, refl, sym, ap, ◌∙◌, subst, inl, inr, arith}
-use Rattle.std.specs.Prelude.{◌⊎◌, Option, Some, None, Ok, Err, nat_lt, true, false, Bool}
+use Rattle.std.proofs.lemmas.Bool.{cases_lt}
+use Rattle.std.specs.Prelude.{◌⊎◌, Option, Some, None, Ok, Err}
 use Rattle.mon_lexer.specs.Top.{lexfault, spelled}
 use Rattle.mon_lexer.specs.declared.token.Token.{Token}
 use Rattle.mon_lexer.specs.declared.token.Item.{Item}
@@ -24,33 +25,35 @@ within_brackets tokens h = was_read (read_item (length tokens) tokens) refl
     was_read (Some (tree, t ∷ rest)) e = inr (some_left tokens tree t rest e)
 
 has_or_not : (tokens : List Token) → HasTree tokens ⊎ (¬ HasTree tokens)
-has_or_not tokens = by_brackets (nat_lt 100 (most_open 0 tokens)) refl
+has_or_not tokens = by_brackets (cases_lt 100 (most_open 0 tokens))
   where
-    by_brackets : (b : Bool) → nat_lt 100 (most_open 0 tokens) ≡ b → HasTree tokens ⊎ (¬ HasTree tokens)
-    by_brackets true e = inr (too_open tokens (omega (arith, e)))
-    by_brackets false e = within_brackets tokens (omega (arith, e))
+    by_brackets : (100 < most_open 0 tokens) ⊎ (most_open 0 tokens ≤ 100) → HasTree tokens ⊎ (¬ HasTree tokens)
+    by_brackets (inl h) = inr (too_open tokens h)
+    by_brackets (inr h) = within_brackets tokens h
 
-Trees : List Item → Type 0
+abbrev Trees : List Item → Type 0
 Trees items = (trees : List ModuleItem) × DeriveAll items trees
 
-Stops : List Item → Type 0
+abbrev Stops : List Item → Type 0
 Stops items = (line : ℕ) × FirstWithout items line
 
 later : (item : Item) (items : List Item) → HasTree item.tokens → Stops items → Stops (item ∷ items)
 later item items has stops =
-    let f = stops.1 in
-    (stops.0, record {
-      before = item ∷ f.before;
-      item = f.item;
-      after = f.after;
-      place = ap (λ z. item ∷ z) f.place;
-      trees = has.0 ∷ f.trees;
-      derive = (has.1, f.derive);
-      none = f.none;
-      begins = f.begins;
-    })
+    let f = stops.1 in (
+      stops.0,
+      record {
+        before = item ∷ f.before;
+        item = f.item;
+        after = f.after;
+        place = ap (λ z. item ∷ z) f.place;
+        trees = has.0 ∷ f.trees;
+        derive = (has.1, f.derive);
+        none = f.none;
+        begins = f.begins;
+      },
+    )
 
-pub all_or_first : (items : List Item) → Trees items ⊎ Stops items
+all_or_first : (items : List Item) → Trees items ⊎ Stops items
 all_or_first [] = inl ([], tt)
 all_or_first (item ∷ items) = here (has_or_not item.tokens) (all_or_first items)
   where
@@ -65,6 +68,7 @@ every_text_read bytes = by_fault (lexfault bytes) refl
     spelled_so : lexfault bytes ≡ None → Trees (spelled bytes) ⊎ Stops (spelled bytes) → (reading : Reading) × ReadAs bytes reading
     spelled_so e (inl all) = (Parsed (record { items = all.0 }), (e, all.1))
     spelled_so e (inr stops) = (Underived stops.0, (e, stops.1))
+
     by_fault : (f : Option LexFault) → lexfault bytes ≡ f → (reading : Reading) × ReadAs bytes reading
     by_fault (Some f) e = (Misspelled f, e)
     by_fault None e = spelled_so e (all_or_first (spelled bytes))
