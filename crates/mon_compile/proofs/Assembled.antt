@@ -8,15 +8,14 @@ use Rattle.mon_values.specs.declared.value.Value.{Value}
 use Rattle.mon_compile.specs.declared.instruction.Instruction.{Instruction}
 use Rattle.mon_compile.specs.declared.tree.Function.{Function}
 use Rattle.mon_compile.specs.Compiled.{constants_of, bases_of, locations_of, unmarked, marks, marked, compiled}
-use Rattle.mon_compile.specs.Placing.{is_target, placed}
+use Rattle.mon_compile.specs.Placing.{AllWithin, is_target, placed}
 use Rattle.mon_compile.specs.Scheme.{function_code}
-use Rattle.mon_compile.specs.Sound.{IsSound, locals_of, statements}
-use Rattle.mon_compile.proofs.Checked.{compiled_checked}
-use Rattle.mon_compile.proofs.Lengths.{function_short}
+use Rattle.mon_compile.specs.Sound.{IsSound, locals_of}
+use Rattle.mon_compile.proofs.Checked.{compiled_checked, function_within}
 use Rattle.mon_compile.proofs.Marks.{ops_self, target_same, placed_marks}
 
-pub code_small : (f : Function) (code : List Instruction) → code ≡ function_code f → statements f.body ≤ 8191 → length code ≤ 65536
-code_small f code e small = omega (arith, ap length e, function_short f)
+pub code_within : (f : Function) (code : List Instruction) → IsSound f → code ≡ function_code f → AllWithin (length code) code
+code_within f code sound e = subst (λ (z : List Instruction). AllWithin (length z) z) (sym e) (function_within f sound)
 
 locations_are : (f : Function) → placed (is_target (function_code f)) 0 0 None (function_code f) ≡ marks (bases_of (function_code f)) (unmarked f) 0 None (locations_of 0 (function_code f))
 locations_are f =
@@ -43,5 +42,5 @@ parts_are f names name codes code bases made instructions n m c d b e i =
     ∙ ap (λ (z : List Code). let r : Parts = record { names = f.name ∷ []; codes = z; bases = bases } in r) (c ∙ ap (λ z. z ∷ []) d)
     ∙ ap (λ (z : List ℕ). let r : Parts = record { names = f.name ∷ []; codes = marked (bases_of (function_code f)) (unmarked f) ∷ []; bases = z } in r) (b ∙ e ∙ ap bases_of i)
 
-pub parts_checked : (f : Function) (p : Parts) → IsSound f → statements f.body ≤ 8191 → p ≡ compiled f → IsChecked p
+pub parts_checked : (f : Function) (p : Parts) → IsSound f → length (function_code f) ≤ 65536 → p ≡ compiled f → IsChecked p
 parts_checked f p sound small e = subst IsChecked (sym e) (compiled_checked f sound small)

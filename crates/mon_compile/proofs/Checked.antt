@@ -14,11 +14,11 @@ use Rattle.mon_compile.specs.declared.instruction.Operation.{Operation}
 use Rattle.mon_compile.specs.declared.instruction.Operation.TheVariants.{Resume, LoadConst, LoadFast, StoreFast, BinaryOp, CompareOp, JumpBackward, PopJumpIfFalse, ReturnValue}
 use Rattle.mon_compile.specs.declared.tree.Function.{Function}
 use Rattle.mon_compile.specs.Compiled.{op_of, argument_of, constants_in, constants_of, bases_of, locations_of, unmarked, marks, marked, compiled}
+use Rattle.mon_compile.specs.Placing.{Within, AllWithin, destination}
 use Rattle.mon_compile.specs.Scheme.{put, above, no_line, block_code, function_code}
-use Rattle.mon_compile.specs.Sound.{IsSound, locals_of, reads, statements}
+use Rattle.mon_compile.specs.Sound.{IsSound, locals_of, reads}
 use Rattle.mon_compile.proofs.Fits.{Table, Records, effect, HasLocal, Lands, Fits, AllFit, Stands, records_as, before, join, fits_plain, fits_return}
 use Rattle.mon_compile.proofs.Keeps.{block_kept}
-use Rattle.mon_compile.proofs.Lengths.{function_short}
 use Rattle.mon_compile.proofs.Marks.{Ops, ops_self, op_there, effect_same, mark_same}
 use Rattle.mon_compile.proofs.Membership.{all_contained, targets_in, parameters_few}
 
@@ -77,6 +77,23 @@ function_fits f sound =
         (fits_return t n (1 + length body + 1) (above 1 no_line) 0 refl, tt),
       ),
     )
+
+recorded : (code : List Instruction) (to depth : ℕ) → Records (table_of code) to depth → to < length code
+recorded [] to depth h = absurd cc
+recorded (i ∷ code) zero depth h = omega arith
+recorded (i ∷ code) (suc to) depth h = let inner : to < length code = recorded code to depth h in omega arith
+
+lands_within : (code : List Instruction) (to : Option ℕ) (depth : ℕ) → Lands (table_of code) to depth → Within (length code) to
+lands_within code None depth h = tt
+lands_within code (Some to) depth h = recorded code to depth h.1
+
+fit_within : (whole : List Instruction) (locals at : ℕ) (code : List Instruction) → AllFit (table_of whole) locals at code → AllWithin (length whole) code
+fit_within whole locals at [] f = tt
+fit_within whole locals at (i ∷ code) f = (lands_within whole (destination i.operation) _ f.0.jumps, fit_within whole locals (at + 1) code f.1)
+
+-- a function jumps within itself
+pub function_within : (f : Function) → IsSound f → AllWithin (length (function_code f)) (function_code f)
+function_within f sound = fit_within (function_code f) (length (locals_of f)) 0 (function_code f) (function_fits f sound)
 
 arith_few : (op : ArithOp) → arith_number op < 5
 arith_few ArithOp.Add = omega arith
@@ -165,12 +182,12 @@ function_code_checked f sound =
       each = all_fit bases c (table_of code) refl shows 0 0 None code (ops_self [] code) (omega arith) (function_fits f sound);
     }
 
-pub compiled_checked : (f : Function) → IsSound f → statements f.body ≤ 8191 → checked.IsChecked (compiled f)
+pub compiled_checked : (f : Function) → IsSound f → length (function_code f) ≤ 65536 → checked.IsChecked (compiled f)
 compiled_checked f sound small =
     let code = function_code f in
     record {
       named = refl;
-      small = omega (arith, length-bases_of code, function_short f);
+      small = omega (arith, length-bases_of code);
       few = omega arith;
       codes = (refl, function_code_checked f sound, omega (arith, length-bases_of code, length-marks (bases_of code) (unmarked f) 0 0 None code));
     }

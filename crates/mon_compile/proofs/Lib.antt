@@ -2,23 +2,15 @@ pub mod Assembled
 pub mod Checked
 pub mod Equations
 pub mod Fits
-pub mod Functions
-pub mod Headings
 pub mod Induction
 pub mod Keeps
-pub mod Lengths
-pub mod LineTotals
 pub mod Listing
 pub mod Marks
 pub mod Membership
 pub mod Named
-pub mod Nests
+pub mod Narrowing
 pub mod Patch
 pub mod Places
-pub mod Readings
-mod Rows
 pub mod Sources
 pub mod Steps
 pub mod Targets
-pub mod Texts
-pub mod Totals

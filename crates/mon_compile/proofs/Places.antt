@@ -1,5 +1,5 @@
 -- Which indexes are jumped to, and the locations, instruction by instruction.
-use Rattle.std.proofs.Common.{◌≡◌, ℕ, zero, suc, ◌+◌, ◌<◌, ◌≤◌, ◌||◌, Bool, true, false, List, [], ◌∷◌, ◌++◌, length, drop, get_or, Option, Some, None, refl, sym, ap, ◌∙◌, arith, append_assoc, inl, inr}
+use Rattle.std.proofs.Common.{◌≡◌, ℕ, zero, suc, ◌+◌, ◌<◌, ◌≤◌, ◌||◌, Bool, true, false, List, [], ◌∷◌, ◌++◌, length, drop, get_or, Option, Some, None, refl, sym, ap, ◌∙◌, subst, arith, append_assoc, inl, inr}
 use Rattle.std.proofs.lemmas.Bool.{ne_eqb}
 use Rattle.std.proofs.lemmas.Bool.Decides.{eqb_tells}
 use Rattle.std.specs.Prelude.{slice_set, replicate}
@@ -10,7 +10,7 @@ use Rattle.mon_code.specs.Checked.{jumps_to}
 use Rattle.mon_code.specs.declared.program.Location.{Location}
 use Rattle.mon_compile.specs.declared.instruction.Instruction.{Instruction}
 use Rattle.mon_compile.specs.Compiled.{constants_in}
-use Rattle.mon_compile.specs.Placing.{destination, is_target, Flags, Flagged, location_of, mark, placed}
+use Rattle.mon_compile.specs.Placing.{Within, AllWithin, destination, is_target, Flags, Flagged, location_of, mark, placed}
 
 or_false : (b : Bool) → (b || false) ≡ b
 or_false true = refl
@@ -85,3 +85,15 @@ place_next target code i x k count before m l old new whole h e li n is c inv =
     ∙ ap (λ (z : Location). old ++ z ∷ rest) (li ∙ ap (location_of k x) is)
     ∙ ap (λ (z : List Instruction). old ++ placed target i k before z) (sym (next code i x h e))
     ∙ inv
+
+within_more : (n m : ℕ) (to : Option ℕ) → n ≤ m → Within n to → Within m to
+within_more n m None h w = tt
+within_more n m (Some to) h w = omega (arith, w)
+
+within_get : (n : ℕ) (code : List Instruction) (i : ℕ) (d : Instruction) → i < length code → AllWithin n code → Within n (destination (get_or code i d).operation)
+within_get n [] i d h w = absurd (omega arith)
+within_get n (x ∷ code) zero d h w = w.0
+within_get n (x ∷ code) (suc i) d h w = within_get n code i d (omega arith) w.1
+
+pub within_at : (n m : ℕ) (code : List Instruction) (i : ℕ) (x : Instruction) → i < length code → x ≡ get_or code i x → n ≤ m → AllWithin n code → Within m (destination x.operation)
+within_at n m code i x h e less w = within_more n m (destination x.operation) less (subst (λ (z : Instruction). Within n (destination z.operation)) (sym e) (within_get n code i x h w))

@@ -1,9 +1,5 @@
 pub mod Sound
-pub mod Words
-pub mod Lines
-pub mod FirstForm
-pub mod LineNames
-pub mod Answers
+pub mod Simple
 pub mod Scheme
 pub mod Compiled
 pub mod Placing

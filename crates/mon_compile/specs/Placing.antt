@@ -1,5 +1,5 @@
 -- Locations, where it is known which indexes are jumped to.
-use Rattle.std.specs.Prelude.{◌≡◌, ℕ, ◌+◌, ◌<◌, ◌&&◌, ◌||◌, Bool, false, not, is_some, List, [], ◌∷◌, length, slice_get, slice_index_or, Option, Some}
+use Rattle.std.specs.Prelude.{◌≡◌, ℕ, ◌+◌, ◌<◌, ◌&&◌, ◌||◌, Bool, false, not, is_some, List, [], ◌∷◌, length, slice_get, slice_index_or, Option, Some, None}
 use Rattle.mon_code.specs.Checked.{effect_of, jumps_to, follows_line}
 use Rattle.mon_code.specs.declared.program.Location.{Location}
 use Rattle.mon_compile.specs.declared.instruction.Instruction.{Instruction}
@@ -9,6 +9,16 @@ use Rattle.mon_compile.specs.Compiled.{op_of, argument_of, constants_in}
 -- where an operation jumps
 abbrev pub destination : Operation → Option ℕ
 destination operation = (effect_of (op_of operation) (argument_of 0 operation)).goes_to
+
+-- a destination is an index of so many
+abbrev pub Within : ℕ → Option ℕ → Type 0
+Within size None = Unit {0}
+Within size (Some to) = to < size
+
+-- these instructions jump to indexes of so many alone
+abbrev pub AllWithin : ℕ → List Instruction → Type 0
+AllWithin size [] = Unit {0}
+AllWithin size (i ∷ code) = Within size (destination i.operation) × AllWithin size code
 
 -- one of these instructions jumps to an index
 abbrev pub is_target : List Instruction → ℕ → Bool

@@ -1,5 +1,5 @@
--- The names and the statements of a function.
-use Rattle.std.specs.Prelude.{ℕ, ◌+◌, ◌≤◌, ◌||◌, Bool, false, List, [], ◌∷◌, ◌++◌, map, length, sum, if◌then◌else◌}
+-- The names of a function.
+use Rattle.std.specs.Prelude.{ℕ, ◌≤◌, ◌||◌, ◌&&◌, Bool, true, false, List, [], ◌∷◌, ◌++◌, map, length, if◌then◌else◌}
 use Rattle.std.specs.List.{All, Contains}
 use Rattle.mon_code.specs.Programs.{is_text}
 use Rattle.mon_compile.specs.declared.tree.Function.{Function}
@@ -49,19 +49,20 @@ targets_step (Statement-F.While line c body) = joined body
 abbrev pub targets : List Statement → List (List ℕ)
 targets block = joined (map (fold-Statement (List (List ℕ)) targets_step) block)
 
-abbrev pub statements_step : Statement-F ℕ → ℕ
-statements_step (Statement-F.Assign line name x) = 1
-statements_step (Statement-F.Return line x) = 1
-statements_step (Statement-F.While line c body) = 1 + sum body
-
--- how many statements a block has, with those inside
-abbrev pub statements : List Statement → ℕ
-statements block = sum (map (fold-Statement ℕ statements_step) block)
-
 -- one of these names is this one
 abbrev pub has_name : List (List ℕ) → List ℕ → Bool
 has_name [] name = false
 has_name (n ∷ names) name = is_text n name || has_name names name
+
+-- two of these names are equal
+abbrev pub has_twin : List (List ℕ) → Bool
+has_twin [] = false
+has_twin (n ∷ names) = has_name names n || has_twin names
+
+-- each of the second names is one of the first
+abbrev pub all_named : List (List ℕ) → List (List ℕ) → Bool
+all_named names [] = true
+all_named names (n ∷ more) = has_name names n && all_named names more
 
 -- these names, and behind them those of the second list that are new, by their first place
 abbrev pub with_names : List (List ℕ) → List (List ℕ) → List (List ℕ)

@@ -1,6 +1,6 @@
-ghost use Rattle.std.specs.Prelude.{◌≡◌, ◌+◌, ◌*◌, ◌<◌, ◌≤◌, ◌^◌, [], ◌∷◌, ◌++◌, length, IfOk, OnOk};
+ghost use Rattle.std.specs.Prelude.{◌≡◌, ◌+◌, ◌<◌, ◌≤◌, ◌^◌, [], ◌∷◌, ◌++◌, length, IfOk, OnOk};
 ghost use Rattle.mon_compile.specs.Scheme as scheme;
-ghost use Rattle.mon_compile.specs.Sound.{locals_of, statements};
+ghost use Rattle.mon_compile.specs.Sound.{locals_of};
 
 use crate::instruction::{Instruction, Operation, Spot, above, at_line, no_line};
 use crate::locals::local_number;
@@ -18,7 +18,6 @@ pub fn emit_function(
 ) -> Result<Items<Instruction>, AllocError>
     requires locals { locals.now ≡ locals_of function.now }
     requires few { length locals.now ≤ 255 }
-    requires small { statements function.now.body ≤ 8191 }
     ensures { IfOk result (λ code. code ≡ scheme.function_code function.now) }
 {
     let mut code = Items::new(alloc);
@@ -119,7 +118,6 @@ fn emit_statement(
     statement: &Statement,
 ) -> Result<(), AllocError>
     requires few { length locals.now ≤ 255 }
-    requires room { length code.old + 5 * statements (statement.now ∷ []) ≤ 65536 }
     ensures { OnOk result (code.new ≡ code.old ++ scheme.statement_code locals.now statement.now (length code.old)) }
 {
     match statement {
@@ -148,7 +146,6 @@ fn emit_block(
     body: &[Statement],
 ) -> Result<(), AllocError>
     requires few { length locals.now ≤ 255 }
-    requires room { length code.old + 5 * statements body.now ≤ 65536 }
     ensures { OnOk result (code.new ≡ code.old ++ scheme.block_code locals.now body.now (length code.old)) }
 {
     for statement in body {
@@ -166,17 +163,16 @@ fn emit_while(
     body: &[Statement],
 ) -> Result<(), AllocError>
     requires few { length locals.now ≤ 255 }
-    requires room { length code.old + 5 * (1 + statements body.now) ≤ 65536 }
     ensures { OnOk result (code.new ≡ code.old ++ scheme.while_code line (scheme.test_code locals.now c.now) (scheme.block_code locals.now body.now) (length code.old)) }
 {
-    let start = code.len() as u32;
+    let start = code.len();
     let spot = at_line(line);
     emit_test(code, locals, spot, c)?;
     let hole = code.len();
     put(code, above(1, spot), Operation::PopJumpIfFalse(0))?;
     emit_block(code, locals, body)?;
     put(code, no_line(), Operation::JumpBackward(start))?;
-    let end = code.len() as u32;
+    let end = code.len();
     let jump = Instruction {
         operation: Operation::PopJumpIfFalse(end),
         spot: above(1, spot),

@@ -13,8 +13,8 @@ pub enum Operation {
     StoreFast(u32),
     BinaryOp(ArithOp),
     CompareOp(CmpOp),
-    JumpBackward(u32),
-    PopJumpIfFalse(u32),
+    JumpBackward(usize),
+    PopJumpIfFalse(usize),
     ReturnValue,
 }
 

@@ -1,19 +1,13 @@
-//! From the text of a module to its program.
+//! From the tree of a module to its program.
 #![tactic(auto)]
 
-mod compile;
+mod compiler;
 mod emit;
 mod instruction;
-mod line;
 mod locals;
 mod names;
-mod nest;
+mod narrow;
 mod place;
-mod source;
-mod stack;
-pub mod text;
 pub mod tree;
-mod word;
 
-pub use compile::{compile_function, compiled_is_checked};
-pub use source::compile_text;
+pub use compiler::{CompileFault, compile, compiled_is_checked};

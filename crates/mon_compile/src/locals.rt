@@ -57,13 +57,28 @@ fn add_name(alloc: Global, names: &mut Items<Text>, name: &Text) -> Result<(), A
     names.push(name.copy(alloc)?)
 }
 
-fn has_name(names: &[Text], name: &Text) -> bool
+/// Whether a name is among these.
+pub fn has_name(names: &[Text], name: &Text) -> bool
     ensures { result ≡ sound.has_name names.now name.now }
 {
     for other in names {
         if is_same(other, name) {
             return true;
         }
+    }
+    false
+}
+
+/// Whether two of these names are equal.
+pub fn has_twin(names: &[Text]) -> bool
+    ensures { result ≡ sound.has_twin names.now }
+{
+    let mut rest = names;
+    while let Some((name, others)) = rest.split_first() {
+        if has_name(others, name) {
+            return true;
+        }
+        rest = others;
     }
     false
 }

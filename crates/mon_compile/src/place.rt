@@ -63,7 +63,8 @@ fn op_of(operation: &Operation) -> Op
 
 /// The locations of a code, with their marks. Takes time in proportion to the code.
 pub fn locations(alloc: Global, code: &[Instruction]) -> Result<Items<Location>, AllocError>
-    requires { length code.now ≤ 65536 }
+    requires small { length code.now ≤ 65536 }
+    requires within { placing.AllWithin (length code.now) code.now }
     ensures { IfOk result (λ locations. locations ≡ placing.placed (placing.is_target code.now) 0 0 None code.now) }
 {
     let flags = targets(alloc, code)?;
@@ -82,7 +83,7 @@ fn targets(alloc: Global, code: &[Instruction]) -> Result<Items<bool>, AllocErro
     Ok(flags)
 }
 
-fn destination(operation: &Operation) -> Option<u32>
+fn destination(operation: &Operation) -> Option<usize>
     ensures { result ≡ placing.destination operation.now }
 {
     match operation {
@@ -93,18 +94,19 @@ fn destination(operation: &Operation) -> Option<u32>
 }
 
 #[tactic(auto, using(crate::proofs::Places::flagged_none, crate::proofs::Places::flagged_past, crate::proofs::Places::flagged_set))]
-fn set_flag(flags: &mut Items<bool>, to: Option<u32>)
+fn set_flag(flags: &mut Items<bool>, to: Option<usize>)
     ensures { placing.Flagged flags.old flags.new to }
 {
     if let Some(to) = to {
-        if (to as usize) < flags.len() {
-            flags.set(to as usize, true);
+        if to < flags.len() {
+            flags.set(to, true);
         }
     }
 }
 
 fn place(alloc: Global, code: &[Instruction], flags: &[bool]) -> Result<Items<Location>, AllocError>
     requires small { length code.now ≤ 65536 }
+    requires within { placing.AllWithin (length code.now) code.now }
     requires same { length flags.now ≡ length code.now }
     requires flags { placing.Flags code.now flags.now }
     ensures { IfOk result (λ locations. locations ≡ placing.placed (placing.is_target code.now) 0 0 None code.now) }
@@ -130,6 +132,7 @@ fn mark(is_target: bool, before: Option<Option<u32>>, line: Option<u32>) -> bool
 }
 
 fn location(before: u32, instruction: &Instruction, is_marked: bool) -> Location
+    requires { placing.Within 65536 (placing.destination instruction.now.operation) }
     ensures { result ≡ placing.location_of before instruction.now is_marked }
 {
     Location {
@@ -142,6 +145,7 @@ fn location(before: u32, instruction: &Instruction, is_marked: bool) -> Location
 
 // The argument, behind so many constants.
 fn argument_of(before: u32, operation: &Operation) -> u32
+    requires { placing.Within 65536 (placing.destination operation.now) }
     ensures { result ≡ spec.argument_of before operation.now }
 {
     match operation {
@@ -150,7 +154,7 @@ fn argument_of(before: u32, operation: &Operation) -> u32
         Operation::LoadFast(n) | Operation::StoreFast(n) => *n,
         Operation::BinaryOp(op) => arith_number(*op),
         Operation::CompareOp(op) => cmp_number(*op),
-        Operation::JumpBackward(to) | Operation::PopJumpIfFalse(to) => *to,
+        Operation::JumpBackward(to) | Operation::PopJumpIfFalse(to) => *to as u32,
     }
 }
 

@@ -1,23 +1,13 @@
-use Rattle.std.proofs.Common.{◌+◌, ◌*◌, ◌≤◌, length, arith, rules}
+use Rattle.std.proofs.Common.{arith}
 use Rattle.mon_compile.specs.Scheme as scheme
-use Rattle.mon_compile.specs.Sound.{statements}
-use Rattle.mon_compile.proofs.Steps.{size_within, statements_next, block_next, room_next, while_room, while_next}
+use Rattle.mon_compile.proofs.Steps.{size_within, block_next, while_next}
 use Rattle.mon_compile.proofs.emit.+emit_statement.Goals as goal
 
 pub emit_block-emit_statement-requires : goal.emit_block-emit_statement-requires
-emit_block-emit_statement-requires t c =
-    (omega (arith, size_within _ _ _ c.loop-statement-test.true c.statement-item.is, c.decreases), (c.requires.few, omega (arith, statements_next _ _ _ c.loop-statement-test.true c.statement-item.is, c.loop-statement.invariant.room)))
+emit_block-emit_statement-requires t c = (omega (arith, size_within _ _ _ c.loop-statement-test.true c.statement-item.is, c.decreases), c.requires.few)
 
 pub emit_block-loop-statement-preserved : goal.emit_block-loop-statement-preserved
-emit_block-loop-statement-preserved t c = record {
-  emitted = block_next _ _ _ _ _ _ _ c.loop-statement-test.true c.statement-item.is c.in_ok-emit_statement.ensures c.loop-statement.invariant.emitted;
-  room = room_next _ _ _ _ _ _ _ c.loop-statement-test.true c.statement-item.is c.in_ok-emit_statement.ensures c.loop-statement.invariant.room;
-}
-
-pub emit_while-overflow_cast-end : goal.emit_while-overflow_cast-end
-emit_while-overflow_cast-end t c =
-    let room : length c.put-2.new.code ≤ length c.args.code.now + 5 * (1 + statements c.args.body.now) = while_room _ _ _ _ _ _ _ _ _ _ _ c.in_ok-emit_test.ensures c.in_ok-put.ensures c.in_ok-emit_block.ensures c.in_ok-put-2.ensures in
-    search rules
+emit_block-loop-statement-preserved t c = block_next _ _ _ _ _ _ _ c.loop-statement-test.true c.statement-item.is c.in_ok-emit_statement.ensures c.loop-statement.invariant
 
 pub emit_while-returns : goal.emit_while-returns
 emit_while-returns t c =

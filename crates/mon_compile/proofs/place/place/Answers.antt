@@ -1,7 +1,7 @@
-use Rattle.std.proofs.Common.{ap, ◌∙◌, arith}
+use Rattle.std.proofs.Common.{length, ap, ◌∙◌, arith}
 use Rattle.std.proofs.lemmas.Option.{get_or_from_slice_get}
 use Rattle.mon_compile.specs.Placing as placing
-use Rattle.mon_compile.proofs.Places.{place_next}
+use Rattle.mon_compile.proofs.Places.{place_next, within_at}
 use Rattle.mon_compile.proofs.place.place.Goals as goal
 
 pub loop-at-preserved : goal.loop-at-preserved
@@ -11,3 +11,6 @@ loop-at-preserved c = record {
       c.constant_count-constants.ensures.count c.loop-at.invariant.placed;
   few = omega arith;
 }
+
+pub location-requires : goal.location-requires
+location-requires c = within_at (length c.args.code.now) 65536 c.args.code.now c.loop-at.at c.index-code-at.result c.loop-at-test.true c.index-code-at.is c.requires.small c.requires.within

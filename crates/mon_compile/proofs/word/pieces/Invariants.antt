@@ -1,9 +1,0 @@
-use Rattle.std.proofs.Common.{◌≡◌, ◌++◌, length}
-use Rattle.mon_compile.specs.Words as spec
-use Rattle.mon_compile.proofs.word.pieces.Given as goal
-
-abbrev pub invariant-loop-c : goal.invariant-loop-c
-invariant-loop-c l = spec.pieces l.line ≡ l.pieces ++ spec.pieces_from l.run l.rest
-
-abbrev pub decreases-loop-c : goal.decreases-loop-c
-decreases-loop-c l = length l.rest
