@@ -11,7 +11,6 @@ use Rattle.mon_lexer.specs.declared.token.LexFault.TheVariants.{TooLong}
 use Rattle.mon_lexer.proofs.Texts.{too_long}
 use Rattle.mon_parser.specs.Texts.{Reading, ReadAs, Misspelled, Underived, Parsed}
 use Rattle.mon_main.specs.Outside.{ReadsAll}
-use Rattle.mon_main.specs.declared.plan.Plan.{Plan}
 use Rattle.mon_main.specs.Plans.{plan_of}
 
 pub plan_of-long : (p : Parts) (text : List ℕ) → 4096 < length text → plan_of p text ≡ None

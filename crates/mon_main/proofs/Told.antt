@@ -1,21 +1,19 @@
 -- What is answered from what was read is the due answer, where the store tells what the names stand for.
-use Rattle.std.proofs.Common.{◌≡◌, ◌∙◌, ℕ, List, [], ◌++◌, length, take, refl, sym, ap, subst, inr, Result, Ok, Err, IfOk, min, rules}
+use Rattle.std.proofs.Common.{◌≡◌, ◌∙◌, ℕ, List, [], ◌++◌, length, take, refl, sym, ap, subst, inr, Result, Ok, Err, IfOk, min}
 use Rattle.std.proofs.lemmas.List.{take_min}
-use Rattle.std.specs.Prelude.{Option, Some, None, IsSome, Vec}
-use Rattle.std.specs.declared.alloc.Global.{Global}
+use Rattle.std.specs.Prelude.{Option, Some, None, IsSome}
 use Rattle.mon_code.specs.Programs.{Parts}
 use Rattle.mon_parser.specs.Texts.{Reading, ReadAs, Misspelled, Underived, Parsed}
 use Rattle.mon_parser.specs.declared.tree.Module.{Module}
 use Rattle.mon_parser.proofs.Texts.{text_read_once}
 use Rattle.mon_main.proofs.Limits.{plan_of-take, read_as-take, read_of}
-use Rattle.mon_main.specs.Answer.{Answer, planned, compiled, sourced, source, not_built, program_in, TellsFile, TellsPlan, HasProgram, FailedRead}
+use Rattle.mon_main.specs.Answer.{Answer, planned, compiled, sourced, source, program_in, TellsFile, TellsPlan, HasProgram}
 use Rattle.mon_main.specs.Commands.{Replay}
-use Rattle.mon_compile.specs.Sources.{AnswersProgram, program_of}
+use Rattle.mon_compile.specs.Sources.{program_of}
 use Rattle.mon_main.specs.Outside.{ReadsAll, ReadCause, Rose}
 use Rattle.mon_main.specs.Plans.{plan_of}
 use Rattle.mon_main.specs.Replies.{answer_of, ReplyCause}
 use Rattle.mon_main.specs.Sources.{fault_line, misspelled_line, underived_line, ModuleOf}
-use Rattle.mon_compile.specs.declared.fault.CompileFault.TheVariants as compile_fault
 use Rattle.mon_main.specs.declared.reply.Reply.{Reply}
 use Rattle.mon_main.specs.declared.source.SourceFault.{SourceFault}
 use Rattle.mon_main.specs.declared.source.SourceFault.TheVariants as source_fault

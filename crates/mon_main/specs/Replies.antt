@@ -1,5 +1,5 @@
 -- What a command has to say, as an answer.
-use Rattle.std.specs.Prelude.{◌≡◌, ℕ, List, [], Option, Result, Ok, Err, string_bytes}
+use Rattle.std.specs.Prelude.{◌≡◌, ℕ, List, Option, Result, Ok, Err, string_bytes}
 use Rattle.mon_main.specs.Answer.{Answer, usage, source, not_built, FailedRead}
 use Rattle.mon_main.specs.Commands.{Replay}
 use Rattle.mon_main.specs.Outside.{Rose}

@@ -1,10 +1,8 @@
 use Rattle.std.proofs.Common.{ℕ, List, subst}
-use Rattle.std.specs.Prelude.{Result, Ok, Err}
+use Rattle.std.specs.Prelude.{Err}
 use Rattle.mon_parser.specs.Texts.{ReadAs, Parsed}
-use Rattle.mon_parser.specs.declared.tree.Module.{Module}
 use Rattle.mon_main.proofs.Told.{cause_of_plan, due_of_module, has_program, is_reading, source_due}
 use Rattle.mon_main.specs.Sources.{ModuleOf}
-use Rattle.mon_main.specs.declared.source.SourceFault.{SourceFault}
 use Rattle.mon_main.proofs.reply.replay.Goals as goal
 
 pub returns-in-Ok-clause-due : goal.returns-in-Ok-clause-due
