@@ -63,12 +63,12 @@ answer words reading plan = commanded (replay_of words) reading plan
 abbrev pub Gives : Answer → Status → Option (List ℕ) → Option (List ℕ) → Type 0
 Gives a status old new = (a.status ≡ status) × Writes old a.text new
 
--- contents are told as far as a command needs them: those of FILE, which are read so, and those of PLAN where FILE has a
--- program
+-- contents are told, and read so
 abbrev pub TellsFile : Option (List ℕ) → Reading → Type 0
 TellsFile None reading = ⊥
 TellsFile (Some file) reading = ReadAs file reading
 
+-- the program of what FILE is read as
 abbrev pub program_in : Reading → Option Parts
 program_in (Misspelled f) = None
 program_in (Underived line) = None
@@ -78,6 +78,7 @@ abbrev pub TellsPlan : Option Parts → Option (List ℕ) → List ℕ → Type 
 TellsPlan None told plan = Unit {0}
 TellsPlan (Some p) told plan = told ≡ Some plan
 
+-- contents are told as far as a command needs them: those of FILE, and those of PLAN where FILE has a program
 abbrev pub Tells : Option Replay → (List ℕ → Option (List ℕ)) → Reading → List ℕ → Type 0
 Tells None holds reading plan = Unit {0}
 Tells (Some r) holds reading plan = TellsFile (holds r.file) reading × TellsPlan (program_in reading) (holds r.plan) plan
