@@ -5,10 +5,12 @@ use Rattle.std.proofs.lemmas.Bool.Decides.{nat_tests}
 use Rattle.std.proofs.lemmas.List.{take_all, length-take-le}
 use Rattle.std.specs.Prelude.{Option, Some, None, nat_le, ◌⊎◌}
 use Rattle.mon_code.specs.Programs.{Parts}
-use Rattle.mon_compile.specs.Sources.{program_of}
-use Rattle.mon_compile.proofs.Sources.{program_of-long}
+use Rattle.mon_lexer.specs.Top.{lexfault}
+use Rattle.mon_lexer.specs.declared.token.LexFault.{LexFault}
+use Rattle.mon_lexer.specs.declared.token.LexFault.TheVariants.{TooLong}
+use Rattle.mon_lexer.proofs.Texts.{too_long}
+use Rattle.mon_parser.specs.Texts.{Reading, ReadAs, Misspelled, Underived, Parsed}
 use Rattle.mon_main.specs.Outside.{ReadsAll}
-use Rattle.mon_main.specs.declared.plan.Plan.{Plan}
 use Rattle.mon_main.specs.Plans.{plan_of}
 
 pub plan_of-long : (p : Parts) (text : List ℕ) → 4096 < length text → plan_of p text ≡ None
@@ -21,11 +23,26 @@ past_limit f limit h long text (inl k) =
     long (take 262145 text) (omega arith) ∙ sym (long text (omega arith))
 past_limit f limit h long text (inr k) = ap f (take_all 262145 text k)
 
-pub program_of-take : (text : List ℕ) → program_of (take 262145 text) ≡ program_of text
-program_of-take text = past_limit program_of 16384 (omega arith) program_of-long text (cases_lt 262145 (length text))
-
 pub plan_of-take : (p : Parts) (text : List ℕ) → plan_of p (take 262145 text) ≡ plan_of p text
 plan_of-take p text = past_limit (plan_of p) 4096 (omega arith) (plan_of-long p) text (cases_lt 262145 (length text))
+
+no_fault : (f : LexFault) (o : Option LexFault) → o ≡ Some f → o ≡ None → ⊥
+no_fault f o e n = let h : ◌≡◌ {A = Option LexFault} (Some f) None = sym e ∙ n in cc
+
+-- all texts with the same fault are read alike
+same_fault : (cut text : List ℕ) (f : LexFault) (r : Reading) → lexfault cut ≡ Some f → lexfault text ≡ Some f → ReadAs cut r → ReadAs text r
+same_fault cut text f (Misspelled g) c t h = t ∙ sym c ∙ h
+same_fault cut text f (Underived line) c t h = absurd (no_fault f (lexfault cut) c h.0)
+same_fault cut text f (Parsed m) c t h = absurd (no_fault f (lexfault cut) c h.0)
+
+pub read_as-take : (text : List ℕ) (r : Reading) → ReadAs (take 262145 text) r → ReadAs text r
+read_as-take text r h = by_length (cases_lt 262145 (length text))
+  where
+    by_length : (262145 < length text) ⊎ (length text ≤ 262145) → ReadAs text r
+    by_length (inl k) =
+        let cut : length (take 262145 text) ≡ 262145 = length-take-le 262145 text (omega arith) in
+        same_fault (take 262145 text) text TooLong r (too_long (take 262145 text) (omega arith)) (too_long text (omega arith)) h
+    by_length (inr k) = subst (λ (l : List ℕ). ReadAs l r) (take_all 262145 text k) h
 
 -- what was read of told contents
 pub read_of : (held : Option (List ℕ)) (bytes read : List ℕ) → held ≡ Some bytes → ReadsAll held [] read → read ≡ take 262145 bytes

@@ -1,5 +1,5 @@
 -- A text in pieces.
-use Rattle.std.proofs.Common.{◌≡◌, ℕ, ◌+◌, ◌-◌, ◌≤◌, List, ◌++◌, length, take, drop, refl, sym, ap, ◌∙◌, arith, append_assoc, min, subst}
+use Rattle.std.proofs.Common.{◌≡◌, ℕ, ◌+◌, ◌-◌, ◌≤◌, List, ◌++◌, length, take, drop, sym, ap, ◌∙◌, arith, append_assoc, subst}
 use Rattle.std.proofs.lemmas.List.{take-append-drop, drop-take, take-take, length-take-le, length-drop}
 use Rattle.std.specs.Prelude.{Option, Some, None}
 use Rattle.mon_main.specs.Outside.{Writes, WritesPrefix}

@@ -1,5 +1,5 @@
 -- What is answered to the text of a plan.
-use Rattle.std.proofs.Common.{◌≡◌, ◌∙◌, ℕ, List, refl, ap, sym, Ok, Err}
+use Rattle.std.proofs.Common.{◌≡◌, ◌∙◌, ℕ, List, refl, ap, Ok, Err}
 use Rattle.std.specs.Prelude.{Option, Some, None}
 use Rattle.mon_code.specs.Programs.{Parts}
 use Rattle.mon_recorders.specs.declared.record.Record.{Record}

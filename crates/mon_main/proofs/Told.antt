@@ -1,19 +1,22 @@
 -- What is answered from what was read is the due answer, where the store tells what the names stand for.
-use Rattle.std.proofs.Common.{◌≡◌, ◌∙◌, ℕ, List, [], ◌++◌, length, take, refl, sym, ap, subst, inr, Result, Ok, Err, IfOk, min, rules}
+use Rattle.std.proofs.Common.{◌≡◌, ◌∙◌, ℕ, List, [], ◌++◌, length, take, refl, sym, ap, subst, inr, Result, Ok, Err, IfOk, min}
 use Rattle.std.proofs.lemmas.List.{take_min}
-use Rattle.std.specs.Prelude.{Option, Some, None, IsSome, Vec}
-use Rattle.std.specs.declared.alloc.Global.{Global}
+use Rattle.std.specs.Prelude.{Option, Some, None, IsSome}
 use Rattle.mon_code.specs.Programs.{Parts}
-use Rattle.mon_main.proofs.Limits.{plan_of-take, program_of-take, read_of}
-use Rattle.mon_main.specs.Answer.{Answer, planned, compiled, not_built, TellsPlan, HasProgram, FailedRead}
+use Rattle.mon_parser.specs.Texts.{Reading, ReadAs, Misspelled, Underived, Parsed}
+use Rattle.mon_parser.specs.declared.tree.Module.{Module}
+use Rattle.mon_parser.proofs.Texts.{text_read_once}
+use Rattle.mon_main.proofs.Limits.{plan_of-take, read_as-take, read_of}
+use Rattle.mon_main.specs.Answer.{Answer, planned, compiled, sourced, source, program_in, TellsFile, TellsPlan, HasProgram}
 use Rattle.mon_main.specs.Commands.{Replay}
-use Rattle.mon_compile.specs.Sources.{AnswersProgram, program_of}
+use Rattle.mon_compile.specs.Sources.{program_of}
 use Rattle.mon_main.specs.Outside.{ReadsAll, ReadCause, Rose}
 use Rattle.mon_main.specs.Plans.{plan_of}
 use Rattle.mon_main.specs.Replies.{answer_of, ReplyCause}
-use Rattle.mon_compile.specs.declared.text.TextFault.{TextFault}
-use Rattle.mon_compile.specs.declared.text.TextFault.TheVariants as text_fault
+use Rattle.mon_main.specs.Sources.{fault_line, misspelled_line, underived_line, ModuleOf}
 use Rattle.mon_main.specs.declared.reply.Reply.{Reply}
+use Rattle.mon_main.specs.declared.source.SourceFault.{SourceFault}
+use Rattle.mon_main.specs.declared.source.SourceFault.TheVariants as source_fault
 use Rattle.mon_main.specs.declared.store.StoreFault.{StoreFault}
 use Rattle.mon_main.specs.declared.store.StoreFault.TheVariants.{Failed, Memory}
 
@@ -28,38 +31,42 @@ reads_first held bytes old new count e h is =
 pub due_of_plan : (p : Parts) (held : Option (List ℕ)) (text read : List ℕ) (a : Answer) → held ≡ Some text → ReadsAll held [] read → a ≡ planned p (plan_of p read) → a ≡ planned p (plan_of p text)
 due_of_plan p held text read a e r d = d ∙ ap (planned p) (ap (plan_of p) (read_of held text read e r) ∙ plan_of-take p text)
 
--- the program that was read is that of the whole text
-pub found : (held : Option (List ℕ)) (text read : List ℕ) (due : Option Parts) → held ≡ Some text → ReadsAll held [] read → program_of read ≡ due → program_of text ≡ due
-found held text read due e r d = sym (program_of-take text) ∙ ap program_of (sym (read_of held text read e r)) ∙ d
+-- the whole text is read as its first bytes are
+pub found : (text read : List ℕ) (reading : Reading) → ReadsAll (Some text) [] read → ReadAs read reading → ReadAs text reading
+found text read reading r d =
+    read_as-take text reading (subst (λ (l : List ℕ). ReadAs l reading) (read_of (Some text) text read refl r) d)
 
-pub is_due : (p : Parts) (bases : Vec ℕ Global) (due : Option Parts) → AnswersProgram (Ok (p, bases)) due → due ≡ Some p
-is_due p bases None h = absurd h
-is_due p bases (Some q) h = ap (λ t. Some t) (sym h.0)
+pub is_reading : (held : Option (List ℕ)) (read : List ℕ) (reading one : Reading) → TellsFile held reading → ReadsAll held [] read → ReadAs read one → one ≡ reading
+is_reading None read reading one h r d = absurd h
+is_reading (Some text) read reading one h r d = text_read_once text one reading (found text read one r d) h
 
-pub is_not_due : (due : Option Parts) → AnswersProgram (Err text_fault.NotBuilt) due → due ≡ None
-is_not_due None h = refl
-is_not_due (Some q) h = absurd h
+-- what a module is answered is what is due to the reading that it is
+pub due_of_module : (m : Module) (reading : Reading) (held told : Option (List ℕ)) (plan : List ℕ) (r : Result Reply StoreFault) → Parsed m ≡ reading → told ≡ held → TellsPlan (program_in reading) held plan
+    → (TellsPlan (program_of m) told plan → IfOk r (λ x. answer_of x ≡ compiled (program_of m) plan)) → IfOk r (λ x. answer_of x ≡ sourced reading plan)
+due_of_module m reading held told plan r is same tells run =
+    let Q : Reading → Type 0 = λ t. TellsPlan (program_in t) held plan → IfOk r (λ x. answer_of x ≡ sourced t plan) in
+    let at_module : Q (Parsed m) = λ k. run (subst (λ (t : Option (List ℕ)). TellsPlan (program_of m) t plan) (sym same) k) in
+    let at_reading : Q reading = subst Q is at_module in
+    at_reading tells
 
-pub due_of_program : {E : Type 0} (due : Option Parts) (p : Parts) (held told : Option (List ℕ)) (text : List ℕ) (r : Result Reply E) → due ≡ Some p → told ≡ held → TellsPlan due held text → (told ≡ Some text → IfOk r (λ x. answer_of x ≡ planned p (plan_of p text))) → IfOk r (λ x. answer_of x ≡ compiled due text)
-due_of_program {E} due p held told text r e same tells run =
-    let Q : Option Parts → Type 0 = λ t. TellsPlan t held text → IfOk r (λ x. answer_of x ≡ compiled t text) in
-    let at_program : Q (Some p) = λ k. run (same ∙ k) in
-    let at_due : Q due = subst Q (sym e) at_program in
-    at_due tells
+some_line : (line other : List ℕ) → Some other ≡ Some line → line ≡ other
+some_line line other e = cc
 
-pub not_built_due : (due : Option Parts) (text : List ℕ) → due ≡ None → not_built ≡ compiled due text
-not_built_due due text e = sym (ap (λ t. compiled t text) e)
-
-pub has_program : (held : Option (List ℕ)) (read : List ℕ) (p : Parts) → ReadsAll held [] read → program_of read ≡ Some p → HasProgram held
-has_program None read p r e = tt
-has_program (Some text) read p r e =
-    let P : Option Parts → Type 0 = λ t. IsSome t in
-    subst P (sym (found (Some text) text read (Some p) refl r e)) (is_some_program p)
+pub source_due : (fault : SourceFault) (held : Option (List ℕ)) (read line : List ℕ) (reading : Reading) (plan : List ℕ) → ModuleOf (Err fault) read → TellsFile held reading → ReadsAll held [] read → fault_line fault ≡ Some line → source line ≡ sourced reading plan
+source_due (source_fault.Misspelled f) held read line reading plan m h r e =
+    ap source (some_line line (misspelled_line f) e) ∙ ap (λ (t : Reading). sourced t plan) (is_reading held read reading (Misspelled f) h r m)
+source_due (source_fault.Underived at) held read line reading plan m h r e =
+    ap source (some_line line (underived_line at) e) ∙ ap (λ (t : Reading). sourced t plan) (is_reading held read reading (Underived at) h r m)
+source_due source_fault.Memory held read line reading plan m h r e = absurd (no_line line e)
   where
-    is_some_program : (p : Parts) → IsSome (Some p)
-    is_some_program p = search rules
+    no_line : (line : List ℕ) → ◌≡◌ {A = Option (List ℕ)} None (Some line) → ⊥
+    no_line line e = cc
 
-pub cause_of_plan : (replay : Replay) (holds : List ℕ → Option (List ℕ)) (before mid now : ℕ) (was is : Option (List ℕ)) (r : Result Reply StoreFault) → mid ≡ before → HasProgram (holds replay.file) → ReadCause replay.plan mid now was is r → ReplyCause (Some replay) holds before now is r
+pub has_program : (held : Option (List ℕ)) (read : List ℕ) (m : Module) → ReadsAll held [] read → ReadAs read (Parsed m) → IsSome (program_of m) → HasProgram held
+has_program None read m r d is = tt
+has_program (Some text) read m r d is = (m, found text read (Parsed m) r d, is)
+
+pub cause_of_plan : (replay : Replay) (holds : List ℕ → Option (List ℕ)) (before mid now : ℕ) (was is : Option (List ℕ)) (r : Result Reply StoreFault) → mid ≡ before → (r ≡ Err Failed → HasProgram (holds replay.file)) → ReadCause replay.plan mid now was is r → ReplyCause (Some replay) holds before now is r
 cause_of_plan replay holds before mid now was is (Ok x) e has h = h.0 ∙ e
 cause_of_plan replay holds before mid now was is (Err Memory) e has h = h.0 ∙ e
-cause_of_plan replay holds before mid now was is (Err Failed) e has h = (let P : ℕ → Type 0 = λ n. Rose n now in subst P e h.0, inr (h.1, has))
+cause_of_plan replay holds before mid now was is (Err Failed) e has h = (let P : ℕ → Type 0 = λ n. Rose n now in subst P e h.0, inr (h.1, has refl))

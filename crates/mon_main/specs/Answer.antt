@@ -1,16 +1,19 @@
--- The answer to a command: a status, and the text that is written. It knows the words and the contents of both files,
--- and no store.
+-- The answer to a command: a status, and the text that is written. It knows the words, what FILE is read as and the
+-- contents of PLAN, and no store.
 use Rattle.std.specs.Prelude.{◌≡◌, ℕ, List, Option, Some, None, ◌⊎◌, IsSome, codes}
 use Rattle.mon_code.specs.Programs.{Parts}
 use Rattle.mon_main.specs.Commands.{Replay, replay_of}
+use Rattle.mon_parser.specs.Texts.{Reading, ReadAs, Misspelled, Underived, Parsed}
+use Rattle.mon_parser.specs.declared.tree.Module.{Module}
 use Rattle.mon_compile.specs.Sources.{program_of}
 use Rattle.mon_main.specs.Outside.{Writes}
 use Rattle.mon_main.specs.Plans.{plan_of}
 use Rattle.mon_main.specs.Serial.{serial_of}
+use Rattle.mon_main.specs.Sources.{misspelled_line, underived_line}
 use Rattle.mon_main.specs.Texts.{report_text}
 use Rattle.mon_main.specs.declared.plan.Plan.{Plan}
 use Rattle.mon_main.specs.declared.status.Status.{Status}
-use Rattle.mon_main.specs.declared.status.Status.TheVariants.{Done, Usage, NotBuilt}
+use Rattle.mon_main.specs.declared.status.Status.TheVariants.{Done, Usage, Source, NotBuilt}
 
 pub record Answer : Type 0 where
   pub status : Status
@@ -28,6 +31,9 @@ usage = record { status = Usage; text = usage_line }
 abbrev pub not_built : Answer
 not_built = record { status = NotBuilt; text = not_built_line }
 
+abbrev pub source : List ℕ → Answer
+source line = record { status = Source; text = line }
+
 -- the print of the serial run
 abbrev pub replayed : Parts → Plan → List ℕ
 replayed p q = report_text p q (serial_of p q).records (serial_of p q).steps (serial_of p q).outcome
@@ -40,31 +46,47 @@ abbrev pub compiled : Option Parts → List ℕ → Answer
 compiled None plan = not_built
 compiled (Some p) plan = planned p (plan_of p plan)
 
-abbrev pub commanded : Option Replay → List ℕ → List ℕ → Answer
-commanded None file plan = usage
-commanded (Some r) file plan = compiled (program_of file) plan
+abbrev pub sourced : Reading → List ℕ → Answer
+sourced (Misspelled f) plan = source (misspelled_line f)
+sourced (Underived line) plan = source (underived_line line)
+sourced (Parsed m) plan = compiled (program_of m) plan
 
--- the answer to words, over the contents of FILE and of PLAN
-abbrev pub answer : List (List ℕ) → List ℕ → List ℕ → Answer
-answer words file plan = commanded (replay_of words) file plan
+abbrev pub commanded : Option Replay → Reading → List ℕ → Answer
+commanded None reading plan = usage
+commanded (Some r) reading plan = sourced reading plan
+
+-- the answer to words, over what FILE is read as and the contents of PLAN
+abbrev pub answer : List (List ℕ) → Reading → List ℕ → Answer
+answer words reading plan = commanded (replay_of words) reading plan
 
 -- a command ends with this answer: its status is given, and its text is written whole
 abbrev pub Gives : Answer → Status → Option (List ℕ) → Option (List ℕ) → Type 0
 Gives a status old new = (a.status ≡ status) × Writes old a.text new
 
--- contents are told as far as a command needs them: those of PLAN only where FILE has a program
+-- contents are told, and read so
+abbrev pub TellsFile : Option (List ℕ) → Reading → Type 0
+TellsFile None reading = ⊥
+TellsFile (Some file) reading = ReadAs file reading
+
+-- the program of what FILE is read as
+abbrev pub program_in : Reading → Option Parts
+program_in (Misspelled f) = None
+program_in (Underived line) = None
+program_in (Parsed m) = program_of m
+
 abbrev pub TellsPlan : Option Parts → Option (List ℕ) → List ℕ → Type 0
 TellsPlan None told plan = Unit {0}
 TellsPlan (Some p) told plan = told ≡ Some plan
 
-abbrev pub Tells : Option Replay → (List ℕ → Option (List ℕ)) → List ℕ → List ℕ → Type 0
-Tells None holds file plan = Unit {0}
-Tells (Some r) holds file plan = (holds r.file ≡ Some file) × TellsPlan (program_of file) (holds r.plan) plan
+-- contents are told as far as a command needs them: those of FILE, and those of PLAN where FILE has a program
+abbrev pub Tells : Option Replay → (List ℕ → Option (List ℕ)) → Reading → List ℕ → Type 0
+Tells None holds reading plan = Unit {0}
+Tells (Some r) holds reading plan = TellsFile (holds r.file) reading × TellsPlan (program_in reading) (holds r.plan) plan
 
 -- told contents have a program
 abbrev pub HasProgram : Option (List ℕ) → Type 0
 HasProgram None = Unit {0}
-HasProgram (Some file) = IsSome (program_of file)
+HasProgram (Some file) = (m : Module) × ReadAs file (Parsed m) × IsSome (program_of m)
 
 -- a failed read of a command was that of FILE, or that of PLAN where FILE has a program
 abbrev pub FailedRead : Option Replay → (List ℕ → Option (List ℕ)) → Option (List ℕ) → Type 0

@@ -5,5 +5,6 @@ pub mod Outside
 pub mod Plans
 pub mod Replies
 pub mod Serial
+pub mod Sources
 pub mod Statuses
 pub mod Texts

@@ -1,16 +1,17 @@
 -- What a command has to say, as an answer.
-use Rattle.std.specs.Prelude.{◌≡◌, ℕ, List, [], Option, Result, Ok, Err}
-use Rattle.mon_main.specs.Answer.{Answer, usage, not_built, FailedRead}
+use Rattle.std.specs.Prelude.{◌≡◌, ℕ, List, Option, Result, Ok, Err, string_bytes}
+use Rattle.mon_main.specs.Answer.{Answer, usage, source, not_built, FailedRead}
 use Rattle.mon_main.specs.Commands.{Replay}
 use Rattle.mon_main.specs.Outside.{Rose}
 use Rattle.mon_main.specs.declared.reply.Reply.{Reply}
-use Rattle.mon_main.specs.declared.reply.Reply.TheVariants.{Usage, NotBuilt, Report}
+use Rattle.mon_main.specs.declared.reply.Reply.TheVariants.{Usage, Source, NotBuilt, Report}
 use Rattle.mon_main.specs.declared.status.Status.TheVariants.{Done}
 use Rattle.mon_main.specs.declared.store.StoreFault.{StoreFault}
 use Rattle.mon_main.specs.declared.store.StoreFault.TheVariants.{Failed, Memory}
 
 abbrev pub answer_of : Reply → Answer
 answer_of Usage = usage
+answer_of (Source line) = source (string_bytes line)
 answer_of NotBuilt = not_built
 answer_of (Report text) = record { status = Done; text = text.items }
 

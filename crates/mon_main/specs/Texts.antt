@@ -2,7 +2,6 @@
 use Rattle.std.specs.Prelude.{ℕ, List, [], ◌∷◌, ◌++◌, Bool, true, false, codes, encode_utf8_all}
 use Rattle.std.specs.Fmt.{decimal}
 use Rattle.mon_code.specs.Programs.{Parts}
-use Rattle.mon_events.specs.declared.event.Event.{Event}
 use Rattle.mon_events.specs.Events as events
 use Rattle.mon_recorders.specs.declared.record.Record.{Record}
 use Rattle.mon_recorders.specs.declared.report.Outcome.{Outcome}

@@ -1,4 +1,5 @@
 ghost use Rattle.std.specs.Prelude.{◌≡◌, ◌⊎◌, ℕ, List, None};
+ghost use Rattle.mon_parser.specs.Texts.{Reading};
 ghost use Rattle.mon_main.specs.Commands.{replay_of, texts};
 ghost use Rattle.mon_main.specs.Outside.{Rose, Writes, WritesPrefix};
 ghost use Rattle.mon_main.specs.Answer.{answer, usage_line, FailedRead, Gives, Tells};
@@ -10,7 +11,8 @@ use crate::store::{Store, StoreFault};
 use std::alloc::Global;
 
 /// Does a command, given as the words behind the program's name, and writes its answer. `replay FILE PLAN` runs the
-/// program of FILE by PLAN on one thread and writes the report. Other words are no command.
+/// program of FILE by PLAN on one thread and writes the report; where FILE has a lexical or a syntax fault, PLAN is not
+/// read and the fault is written. Other words are no command.
 ///
 /// Each text is made whole before it is written, so that a command that finds no memory has written nothing.
 pub fn host_serial<S: Store, K: Sink>(
@@ -20,10 +22,12 @@ pub fn host_serial<S: Store, K: Sink>(
     out: &mut K,
 ) -> Status
     // a status that has a text comes with the whole of it
-    ensures done { (file plan : List ℕ) → Tells (replay_of (texts words.now)) (S.holds store.old) file plan → result ≡ Status.Done →
-        Gives (answer (texts words.now) file plan) Status.Done (K.written out.old) (K.written out.new) }
-    ensures not_built { (file plan : List ℕ) → Tells (replay_of (texts words.now)) (S.holds store.old) file plan → result ≡ Status.NotBuilt →
-        Gives (answer (texts words.now) file plan) Status.NotBuilt (K.written out.old) (K.written out.new) }
+    ensures done { (reading : Reading) (plan : List ℕ) → Tells (replay_of (texts words.now)) (S.holds store.old) reading plan → result ≡ Status.Done →
+        Gives (answer (texts words.now) reading plan) Status.Done (K.written out.old) (K.written out.new) }
+    ensures not_built { (reading : Reading) (plan : List ℕ) → Tells (replay_of (texts words.now)) (S.holds store.old) reading plan → result ≡ Status.NotBuilt →
+        Gives (answer (texts words.now) reading plan) Status.NotBuilt (K.written out.old) (K.written out.new) }
+    ensures source { (reading : Reading) (plan : List ℕ) → Tells (replay_of (texts words.now)) (S.holds store.old) reading plan → result ≡ Status.Source →
+        Gives (answer (texts words.now) reading plan) Status.Source (K.written out.old) (K.written out.new) }
     ensures usage { result ≡ Status.Usage →
         (replay_of (texts words.now) ≡ None) × Writes (K.written out.old) usage_line (K.written out.new) }
 
@@ -33,14 +37,14 @@ pub fn host_serial<S: Store, K: Sink>(
         × FailedRead (replay_of (texts words.now)) (S.holds store.old) (S.last_failed store.new)
         × (K.written out.new ≡ K.written out.old) }
     ensures write { result ≡ Status.WriteFault → Rose (K.faults out.old) (K.faults out.new) }
-    ensures prefix { (file plan : List ℕ) → Tells (replay_of (texts words.now)) (S.holds store.old) file plan → result ≡ Status.WriteFault →
-        WritesPrefix (K.written out.old) (answer (texts words.now) file plan).text (K.written out.new) }
+    ensures prefix { (reading : Reading) (plan : List ℕ) → Tells (replay_of (texts words.now)) (S.holds store.old) reading plan → result ≡ Status.WriteFault →
+        WritesPrefix (K.written out.old) (answer (texts words.now) reading plan).text (K.written out.new) }
     ensures memory { result ≡ Status.Memory → K.written out.new ≡ K.written out.old }
 
     // where no fault came, the status is the due one, or there was no memory
-    ensures complete { (file plan : List ℕ) → Tells (replay_of (texts words.now)) (S.holds store.old) file plan →
+    ensures complete { (reading : Reading) (plan : List ℕ) → Tells (replay_of (texts words.now)) (S.holds store.old) reading plan →
         ¬ Rose (S.faults store.old) (S.faults store.new) → ¬ Rose (K.faults out.old) (K.faults out.new) →
-        (result ≡ (answer (texts words.now) file plan).status) ⊎ (result ≡ Status.Memory) }
+        (result ≡ (answer (texts words.now) reading plan).status) ⊎ (result ≡ Status.Memory) }
 {
     match reply_to(alloc, words, store) {
         Ok(reply) => match write_all(out, reply.text()) {

@@ -10,6 +10,7 @@ mod reply;
 mod report;
 mod serial;
 mod sink;
+mod source;
 mod status;
 mod store;
 mod system;

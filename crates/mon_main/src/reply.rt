@@ -1,6 +1,7 @@
-ghost use Rattle.std.specs.Prelude.{◌≡◌, ℕ, List, [], None, Some, IfOk};
+ghost use Rattle.std.specs.Prelude.{◌≡◌, ℕ, List, [], None, Some, IfOk, IsErrOf, IsSome};
 ghost use Rattle.mon_main.specs.Answer as spec;
 ghost use Rattle.mon_main.specs.Commands.{replay_of, texts};
+ghost use Rattle.mon_parser.specs.Texts.{Reading};
 ghost use Rattle.mon_compile.specs.Sources.{program_of};
 ghost use Rattle.mon_main.specs.Outside.{ReadCause, ReadsAll};
 ghost use Rattle.mon_main.specs.Plans.{plan_of};
@@ -11,11 +12,12 @@ use crate::plan::PlanFault;
 use crate::read::read_plan;
 use crate::report::print_report;
 use crate::serial::run_serial;
+use crate::source::{module, source_line};
 use crate::status::Status;
 use crate::store::{Store, StoreFault};
 use mon_code::Program;
-use mon_compile::compile_text;
-use mon_compile::text::TextFault;
+use mon_compile::{CompileFault, compile};
+use mon_parser::tree::Module;
 use std::alloc::{AllocError, Global};
 
 const USAGE: &[u8] = b"usage: run FILE PLAN | replay FILE PLAN | dis FILE | gen NUMBER\n";
@@ -27,6 +29,8 @@ const NOT_BUILT: &[u8] = b"not built yet\n";
 pub enum Reply {
     /// The words are no command.
     Usage,
+    /// The line that says why FILE has no module.
+    Source(String),
     /// A file has a form that is not built yet.
     NotBuilt,
     /// The report of a run.
@@ -39,6 +43,7 @@ impl Reply {
     {
         match self {
             Reply::Usage => Status::Usage,
+            Reply::Source(_) => Status::Source,
             Reply::NotBuilt => Status::NotBuilt,
             Reply::Report(_) => Status::Done,
         }
@@ -50,6 +55,7 @@ impl Reply {
     {
         match self {
             Reply::Usage => USAGE,
+            Reply::Source(line) => line.as_bytes(),
             Reply::NotBuilt => NOT_BUILT,
             Reply::Report(text) => text.as_slice(),
         }
@@ -62,7 +68,7 @@ pub fn reply_to<S: Store>(
     words: &[String],
     store: &mut S,
 ) -> Result<Reply, StoreFault>
-    ensures due { (file plan : List ℕ) → spec.Tells (replay_of (texts words.now)) (S.holds store.old) file plan → IfOk result (λ r. answer_of r ≡ spec.answer (texts words.now) file plan) }
+    ensures due { (reading : Reading) (plan : List ℕ) → spec.Tells (replay_of (texts words.now)) (S.holds store.old) reading plan → IfOk result (λ r. answer_of r ≡ spec.answer (texts words.now) reading plan) }
     ensures usage { IfOk result (λ r. (answer_of r).status ≡ Status.Usage → replay_of (texts words.now) ≡ None) }
     ensures cause { ReplyCause (replay_of (texts words.now)) (S.holds store.old) (S.faults store.old) (S.faults store.new) (S.last_failed store.new) result }
 {
@@ -79,15 +85,33 @@ fn replay<S: Store>(
     plan: &str,
     store: &mut S,
 ) -> Result<Reply, StoreFault>
-    ensures due { (f p : List ℕ) → spec.Tells (Some (record { file = file.now; plan = plan.now })) (S.holds store.old) f p → IfOk result (λ r. answer_of r ≡ spec.compiled (program_of f) p) }
+    ensures due { (reading : Reading) (p : List ℕ) → spec.Tells (Some (record { file = file.now; plan = plan.now })) (S.holds store.old) reading p → IfOk result (λ r. answer_of r ≡ spec.sourced reading p) }
     ensures not_usage { IfOk result (λ r. (answer_of r).status ≡ Status.Usage → ⊥) }
     ensures cause { ReplyCause (Some (record { file = file.now; plan = plan.now })) (S.holds store.old) (S.faults store.old) (S.faults store.new) (S.last_failed store.new) result }
 {
     let text = contents(alloc, file, store)?;
-    match compile_text(alloc, text.as_slice()) {
+    match module(alloc, text.as_slice()) {
+        Ok(tree) => compiled(alloc, &tree, plan, store),
+        Err(fault) => Ok(Reply::Source(source_line(alloc, fault)?)),
+    }
+}
+
+/// The reply of a module to PLAN, which is read only where the module has a program.
+fn compiled<S: Store>(
+    alloc: Global,
+    tree: &Module,
+    plan: &str,
+    store: &mut S,
+) -> Result<Reply, StoreFault>
+    ensures due { (p : List ℕ) → spec.TellsPlan (program_of tree.now) (S.holds store.old plan.now) p → IfOk result (λ r. answer_of r ≡ spec.compiled (program_of tree.now) p) }
+    ensures not_usage { IfOk result (λ r. (answer_of r).status ≡ Status.Usage → ⊥) }
+    ensures cause { ReadCause plan.now (S.faults store.old) (S.faults store.new) (S.last_failed store.old) (S.last_failed store.new) result }
+    ensures has_program { IsErrOf result StoreFault.Failed → IsSome (program_of tree.now) }
+{
+    match compile(alloc, tree) {
         Ok((program, bases)) => run(alloc, &program, bases.as_slice(), plan, store),
-        Err(TextFault::NotBuilt) => Ok(Reply::NotBuilt),
-        Err(TextFault::Memory) => Err(StoreFault::Memory),
+        Err(CompileFault::NotBuilt) => Ok(Reply::NotBuilt),
+        Err(CompileFault::Memory) => Err(StoreFault::Memory),
     }
 }
 

@@ -8,6 +8,8 @@ pub enum Status {
     Done = 0,
     /// The words are no command.
     Usage = 2,
+    /// FILE has a lexical or a syntax fault.
+    Source = 3,
     /// The store refused to read a file.
     ReadFault = 5,
     /// The sink refused to write.
@@ -26,6 +28,7 @@ impl Status {
         match self {
             Status::Done => 0,
             Status::Usage => 2,
+            Status::Source => 3,
             Status::ReadFault => 5,
             Status::WriteFault => 6,
             Status::Memory => 7,

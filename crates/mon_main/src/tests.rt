@@ -1,3 +1,5 @@
+mod sources;
+
 use crate::{
     FileStore, MemoryFile, MemorySink, MemoryStore, Sink, SinkFault, Status, StdoutSink, Store,
     StoreFault, host_serial, write_all,

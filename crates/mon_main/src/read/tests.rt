@@ -1,22 +1,27 @@
+use crate::source::module;
 use crate::{Plan, PlanFault, read_plan};
-use mon_compile::compile_text;
-use mon_compile::text::TextFault;
+use mon_code::Program;
+use mon_compile::compile;
 use std::alloc::{AllocError, Global};
 use std::test::Fail;
 
 /// One function `f` of one parameter.
 const PROGRAM: &str = "def f(n):\n    return n\n";
 
+/// The program of a text that has one.
+fn program_of(alloc: Global, text: &str) -> Result<Program, AllocError> {
+    let tree = module(alloc, text.as_bytes()).map_err(|_| AllocError)?;
+    let (program, _) = compile(alloc, &tree).map_err(|_| AllocError)?;
+    Ok(program)
+}
+
 /// The plan that a text is for a program.
 fn plan(alloc: Global, program: &str, text: &str) -> Result<Option<Plan>, AllocError> {
-    match compile_text(alloc, program.as_bytes()) {
-        Ok((program, _)) => match read_plan(alloc, &program, text.as_bytes()) {
-            Ok(plan) => Ok(Some(plan)),
-            Err(PlanFault::NotBuilt) => Ok(None),
-            Err(PlanFault::Memory) => Err(AllocError),
-        },
-        Err(TextFault::NotBuilt) => Ok(None),
-        Err(TextFault::Memory) => Err(AllocError),
+    let program = program_of(alloc, program)?;
+    match read_plan(alloc, &program, text.as_bytes()) {
+        Ok(plan) => Ok(Some(plan)),
+        Err(PlanFault::NotBuilt) => Ok(None),
+        Err(PlanFault::Memory) => Err(AllocError),
     }
 }
 

@@ -1,0 +1,77 @@
+ghost use Rattle.std.specs.Prelude.{◌≡◌, IfOk, Some, string_bytes};
+ghost use Rattle.mon_main.specs.Sources.{fault_line, of_lexer, of_parser, ModuleOf};
+ghost use Rattle.mon_main.specs.Sources as spec;
+
+use mon_lexer::{LexFault, items};
+use mon_parser::tree::Module;
+use mon_parser::{SyntaxFault, parse};
+use std::alloc::{AllocError, Global};
+use thiserror::Error;
+
+/// Why a file has no module.
+#[derive(Clone, Copy, Debug, PartialEq, Eq, Error)]
+pub enum SourceFault {
+    /// Its text spells no items.
+    #[error("{0}")]
+    Misspelled(LexFault),
+    /// The first item that has no tree begins on this line.
+    #[error("Syntax {0}")]
+    Underived(u32),
+    #[error("out of memory")]
+    Memory,
+}
+
+impl From<LexFault> for SourceFault {
+    ghost from_gives = { λ fault e. e ≡ of_lexer fault };
+
+    fn from(fault: LexFault) -> SourceFault {
+        match fault {
+            LexFault::Memory => SourceFault::Memory,
+            fault => SourceFault::Misspelled(fault),
+        }
+    }
+}
+
+impl From<SyntaxFault> for SourceFault {
+    ghost from_gives = { λ fault e. e ≡ of_parser fault };
+
+    fn from(fault: SyntaxFault) -> SourceFault {
+        match fault {
+            SyntaxFault::Syntax(line) => SourceFault::Underived(line),
+            SyntaxFault::Memory => SourceFault::Memory,
+        }
+    }
+}
+
+/// The module that a text is read as.
+pub fn module(alloc: Global, text: &[u8]) -> Result<Module, SourceFault>
+    ensures { ModuleOf result text.now }
+{
+    let items = items(alloc, text)?;
+    Ok(parse(alloc, items.as_slice())?)
+}
+
+/// The line that says why a file has no module.
+pub fn source_line(alloc: Global, fault: SourceFault) -> Result<String, AllocError>
+    ensures { IfOk result (λ line. fault_line fault ≡ Some (string_bytes line)) }
+{
+    match fault {
+        SourceFault::Misspelled(fault) => misspelled_line(alloc, fault),
+        SourceFault::Underived(line) => format!(in alloc; "source Syntax {line}\n"),
+        SourceFault::Memory => Err(AllocError),
+    }
+}
+
+fn misspelled_line(alloc: Global, fault: LexFault) -> Result<String, AllocError>
+    ensures { IfOk result (λ line. string_bytes line ≡ spec.misspelled_line fault) }
+{
+    match fault {
+        LexFault::NotUtf8(offset) => format!(in alloc; "source NotUtf8 {offset}\n"),
+        LexFault::BadChar(line) => format!(in alloc; "source BadChar {line}\n"),
+        LexFault::BadIndent(line) => format!(in alloc; "source BadIndent {line}\n"),
+        LexFault::BadNumber(line) => format!(in alloc; "source BadNumber {line}\n"),
+        LexFault::BadText(line) => format!(in alloc; "source BadText {line}\n"),
+        LexFault::TooLong => String::from_str(alloc, "source TooLong\n"),
+        LexFault::Memory => Err(AllocError),
+    }
+}
