@@ -1,5 +1,5 @@
 -- Every text is read as one thing: the items of a module each have a tree, or there is a first one that has none.
-use Rattle.std.proofs.Common.{◌≡◌, ℕ, ◌+◌, ◌<◌, ◌≤◌, List, [], ◌∷◌, ◌++◌, length, refl, sym, ap, ◌∙◌, subst, inl, inr, arith}
+use Rattle.std.proofs.Common.{◌≡◌, ℕ, ◌<◌, ◌≤◌, List, [], ◌∷◌, length, refl, sym, ap, ◌∙◌, inl, inr}
 use Rattle.std.proofs.lemmas.Bool.{cases_lt}
 use Rattle.std.specs.Prelude.{◌⊎◌, Option, Some, None, Ok, Err}
 use Rattle.mon_lexer.specs.Top.{lexfault, spelled}
@@ -9,7 +9,7 @@ use Rattle.mon_lexer.specs.declared.token.LexFault.{LexFault}
 use Rattle.mon_parser.specs.declared.parser.SyntaxFault.TheVariants as fault
 use Rattle.mon_parser.specs.declared.tree.Module.{Module}
 use Rattle.mon_parser.specs.declared.tree.ModuleItem.{ModuleItem}
-use Rattle.mon_parser.specs.Derives.{Derives, HasTree, DeriveAll, FirstWithout}
+use Rattle.mon_parser.specs.Derives.{HasTree, DeriveAll, FirstWithout}
 use Rattle.mon_parser.specs.Statements.{read_item}
 use Rattle.mon_parser.specs.Texts.{Reading, ReadAs, Misspelled, Underived, Parsed}
 use Rattle.mon_parser.specs.Tokens.{first_line, most_open}
