@@ -1,6 +1,5 @@
-use Rattle.std.proofs.Common.{◌≡◌, ◌<◌, ◌≤◌, ◌&&◌, not, length, true, false, sym, ◌∙◌, arith, Some, None}
+use Rattle.std.proofs.Common.{◌≡◌, ◌&&◌, not, length, true, false, sym, ◌∙◌, arith}
 use Rattle.mon_compile.specs.Scheme.{function_code}
-use Rattle.mon_compile.specs.Simple.{function_in}
 use Rattle.mon_compile.specs.Sound.{all_named, has_twin, locals_of, reads}
 use Rattle.mon_compile.proofs.Sources.{no_function, too_many_locals, unsound, too_long, built, is_sound}
 use Rattle.mon_compile.proofs.compiler.compile.Goals as goal
