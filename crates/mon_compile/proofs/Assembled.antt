@@ -1,5 +1,5 @@
 -- The parts of a program, put together.
-use Rattle.std.proofs.Common.{◌≡◌, ℕ, ◌≤◌, List, [], ◌∷◌, length, None, refl, sym, ap, ◌∙◌, subst, arith}
+use Rattle.std.proofs.Common.{◌≡◌, ℕ, ◌≤◌, List, [], ◌∷◌, length, None, refl, sym, ap, ◌∙◌, subst}
 use Rattle.mon_code.specs.Checked.{IsChecked}
 use Rattle.mon_code.specs.Programs.{Parts}
 use Rattle.mon_code.specs.declared.program.Code.{Code}

@@ -85,7 +85,7 @@ with_in names (n ∷ more) =
     let cases : P (has_name names n) = elim (has_name names n) as P [ true ↦ old | false ↦ new ] in
     cases refl
 
-longer : (names more : Names) → length names ≤ length (with_names names more)
+pub longer : (names more : Names) → length names ≤ length (with_names names more)
 longer names [] = omega arith
 longer names (n ∷ more) =
     let new : length names ≤ length (with_names (names ++ n ∷ []) more) = omega (arith, longer (names ++ n ∷ []) more, length-append names (n ∷ [])) in

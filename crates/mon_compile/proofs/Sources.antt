@@ -1,20 +1,19 @@
 -- What is due to a module, by its tree.
-use Rattle.std.proofs.Common.{◌≡◌, ◌<◌, ◌≤◌, ℕ, Bool, true, false, not, ◌&&◌, nat_le, if◌then◌else◌, List, length, refl, sym, ap, ◌∙◌, subst, arith}
+use Rattle.std.proofs.Common.{◌≡◌, ◌<◌, ◌≤◌, ℕ, Bool, true, false, not, ◌&&◌, nat_le, if◌then◌else◌, length, refl, sym, ap, ◌∙◌, subst, arith}
 use Rattle.std.proofs.lemmas.Bool.Decides.{nat_tests}
-use Rattle.std.specs.Prelude.{Option, Some, None, Result, Ok, Err, Vec}
+use Rattle.std.specs.Prelude.{Option, Some, None, Ok, Err, Vec}
 use Rattle.std.specs.Option.{option_map}
 use Rattle.std.specs.declared.alloc.Global.{Global}
 use Rattle.mon_code.specs.Programs.{Parts}
 use Rattle.mon_parser.specs.declared.tree.Module.{Module}
 use Rattle.mon_compile.specs.Compiled.{compiled}
 use Rattle.mon_compile.specs.Scheme.{function_code}
-use Rattle.mon_compile.specs.Simple.{function_in, only_if, is_bound, simple_of}
+use Rattle.mon_compile.specs.Simple.{function_in, only_if, is_bound}
 use Rattle.mon_compile.specs.Sound.{IsSound, all_named, has_twin, locals_of, reads}
 use Rattle.mon_compile.specs.Sources.{program_of, has_no_fault, AnswersProgram}
 use Rattle.mon_compile.specs.declared.tree.Function.{Function}
 use Rattle.mon_compile.proofs.Named.{left_true, right_true, are_named}
-use Rattle.mon_compile.specs.declared.compiler.CompileFault.{CompileFault}
-use Rattle.mon_compile.specs.declared.compiler.CompileFault.TheVariants.{NotBuilt, Memory}
+use Rattle.mon_compile.specs.declared.compiler.CompileFault.TheVariants.{NotBuilt}
 
 abbrev due : Option Function → Option Parts
 due found = option_map compiled (only_if has_no_fault (only_if is_bound found))

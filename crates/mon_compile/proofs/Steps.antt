@@ -1,5 +1,5 @@
 -- A block is emitted statement by statement.
-use Rattle.std.proofs.Common.{◌≡◌, ℕ, zero, suc, ◌+◌, ◌<◌, ◌≤◌, Bool, true, false, ◌&&◌, List, [], ◌∷◌, ◌++◌, length, drop, get_or, sym, ap, ◌∙◌, arith, append_assoc, length-append}
+use Rattle.std.proofs.Common.{◌≡◌, ℕ, zero, suc, ◌+◌, ◌<◌, ◌≤◌, Bool, true, false, ◌&&◌, List, [], ◌∷◌, ◌++◌, length, drop, get_or, refl, sym, ap, ◌∙◌, arith, append_assoc, length-append}
 use Rattle.std.specs.Prelude.{slice_set}
 use Rattle.std.proofs.lemmas.List.{drop_more}
 use Rattle.mon_compile.specs.declared.instruction.Instruction.{Instruction}
@@ -9,6 +9,7 @@ use Rattle.mon_compile.specs.declared.tree.Statement.{Statement}
 use Rattle.mon_compile.specs.Scheme.{FromAt, Coder, put, above, at_line, no_line, while_code, statement_code, block_code}
 use Rattle.mon_compile.specs.Sound.{targets, with_names, reads, all_named}
 use Rattle.mon_compile.proofs.Equations.{size, statements, statements_cons, read_in, reads_one}
+use Rattle.mon_compile.proofs.Membership.{longer}
 use Rattle.mon_compile.proofs.Named.{all_named_append}
 use Rattle.mon_compile.proofs.Targets.{targets_cons}
 use Rattle.mon_compile.proofs.Patch.{patch_while}
@@ -22,6 +23,14 @@ targets_next body i s names new whole h e n k =
     ∙ sym (targets_cons names s (drop (i + 1) body))
     ∙ ap (λ (l : List Statement). with_names names (targets l)) (sym (next body i s h e))
     ∙ k
+
+-- where the names with the targets of one statement are too many, those with all are
+pub targets_over : (body : List Statement) (i : ℕ) (s : Statement) (names whole : List (List ℕ)) → i < length body → s ≡ get_or body i s → 255 < length (with_names names (targets (s ∷ []))) → with_names names (targets (drop i body)) ≡ whole → 255 < length whole
+targets_over body i s names whole h e over k =
+    let some = with_names names (targets (s ∷ [])) in
+    let rest = targets (drop (i + 1) body) in
+    let all : with_names some rest ≡ whole = targets_next body i s names some whole h e refl k in
+    omega (arith, longer some rest, ap length all, over)
 
 pub statements_next : (body : List Statement) (i : ℕ) (s : Statement) → i < length body → s ≡ get_or body i s → statements (drop i body) ≡ size s + statements (drop (i + 1) body)
 statements_next body i s h e = ap (λ (l : List Statement). statements l) (next body i s h e) ∙ statements_cons s (drop (i + 1) body)

@@ -1,5 +1,5 @@
 -- The names of a function.
-use Rattle.std.specs.Prelude.{ℕ, ◌≤◌, ◌||◌, ◌&&◌, Bool, true, false, List, [], ◌∷◌, ◌++◌, map, length, if◌then◌else◌}
+use Rattle.std.specs.Prelude.{◌≡◌, ℕ, ◌<◌, ◌≤◌, ◌||◌, ◌&&◌, Bool, true, false, List, [], ◌∷◌, ◌++◌, map, length, if◌then◌else◌}
 use Rattle.std.specs.List.{All, Contains}
 use Rattle.mon_code.specs.Programs.{is_text}
 use Rattle.mon_compile.specs.declared.tree.Function.{Function}
@@ -68,6 +68,11 @@ all_named names (n ∷ more) = has_name names n && all_named names more
 abbrev pub with_names : List (List ℕ) → List (List ℕ) → List (List ℕ)
 with_names names [] = names
 with_names names (n ∷ more) = if has_name names n then with_names names more else with_names (names ++ n ∷ []) more
+
+-- either the names are the wanted ones and few enough for locals, or the wanted ones are too many
+abbrev pub Added : Bool → List (List ℕ) → List (List ℕ) → Type 0
+Added true names wanted = (names ≡ wanted) × (length names ≤ 255)
+Added false names wanted = 255 < length wanted
 
 -- the parameters, then the other targets
 abbrev pub locals_of : Function → List (List ℕ)

@@ -41,8 +41,6 @@ impl From<AllocError> for CompileFault {
     }
 }
 
-const MOST_LOCALS: usize = 255;
-
 const MOST_LOCATIONS: usize = 65_536;
 
 /// The program of a module, with the base opcode of each of its locations.
@@ -55,8 +53,10 @@ pub fn compile(alloc: Global, module: &Module) -> Result<(Program, Vec<u8>), Com
     let Some(function) = function_in(alloc, module)? else {
         return Err(CompileFault::NotBuilt);
     };
-    let locals = locals(alloc, &function)?;
-    if locals.len() > MOST_LOCALS || !are_sound(locals.as_slice(), &function) {
+    let Some(locals) = locals(alloc, &function)? else {
+        return Err(CompileFault::NotBuilt);
+    };
+    if !are_sound(locals.as_slice(), &function) {
         return Err(CompileFault::NotBuilt);
     }
     let instructions = emit_function(alloc, locals.as_slice(), &function)?;

@@ -1,4 +1,4 @@
-ghost use Rattle.std.specs.Prelude.{◌≡◌, [], ◌∷◌, ◌≤◌, length, IfOk, OnOk};
+ghost use Rattle.std.specs.Prelude.{◌≡◌, [], ◌∷◌, ◌<◌, ◌≤◌, length, IfOk, MatchOption};
 ghost use Rattle.mon_code.specs.Programs.{is_text};
 ghost use Rattle.mon_compile.specs.Scheme as scheme;
 ghost use Rattle.mon_compile.specs.Sound as sound;
@@ -8,28 +8,44 @@ use mon_values::text::Text;
 use sqlite_items::Items;
 use std::alloc::{AllocError, Global};
 
-/// The locals of a function: its parameters, then the other targets of its assignments.
-pub fn locals(alloc: Global, function: &Function) -> Result<Items<Text>, AllocError>
-    ensures { IfOk result (λ names. names ≡ sound.locals_of function.now) }
+const MOST: usize = 255;
+
+/// The locals of a function, its parameters and then the other targets of its assignments, where there are at most 255.
+#[tactic(auto, using(crate::proofs::Membership::parameters_few))]
+pub fn locals(alloc: Global, function: &Function) -> Result<Option<Items<Text>>, AllocError>
+    ensures { IfOk result (λ found. MatchOption found (255 < length (sound.locals_of function.now)) (λ names. (names ≡ sound.locals_of function.now) × (length names ≤ 255))) }
 {
+    if function.parameters.len() > MOST {
+        return Ok(None);
+    }
     let mut names = Items::new(alloc);
     for name in function.parameters.as_slice() {
         names.push(name.copy(alloc)?)?;
     }
-    add_targets(alloc, &mut names, function.body.as_slice())?;
-    Ok(names)
+    if add_targets(alloc, &mut names, function.body.as_slice())? {
+        Ok(Some(names))
+    } else {
+        Ok(None)
+    }
 }
 
-// The targets of a block that are not there yet.
+// Adds the targets of a block that are not there yet, if the names stay few.
 #[cycle(add_targets)]
 #[tactic(auto, using(crate::proofs::Targets::targets_cons))]
-fn add_targets(alloc: Global, names: &mut Items<Text>, body: &[Statement]) -> Result<(), AllocError>
-    ensures { OnOk result (names.new ≡ sound.with_names names.old (sound.targets body.now)) }
+fn add_targets(
+    alloc: Global,
+    names: &mut Items<Text>,
+    body: &[Statement],
+) -> Result<bool, AllocError>
+    requires { length names.old ≤ 255 }
+    ensures { IfOk result (λ few. sound.Added few names.new (sound.with_names names.old (sound.targets body.now))) }
 {
     for statement in body {
-        add_target(alloc, names, statement)?;
+        if !add_target(alloc, names, statement)? {
+            return Ok(false);
+        }
     }
-    Ok(())
+    Ok(true)
 }
 
 #[cycle(add_targets)]
@@ -38,23 +54,29 @@ fn add_target(
     alloc: Global,
     names: &mut Items<Text>,
     statement: &Statement,
-) -> Result<(), AllocError>
-    ensures { OnOk result (names.new ≡ sound.with_names names.old (sound.targets (statement.now ∷ []))) }
+) -> Result<bool, AllocError>
+    requires { length names.old ≤ 255 }
+    ensures { IfOk result (λ few. sound.Added few names.new (sound.with_names names.old (sound.targets (statement.now ∷ [])))) }
 {
     match statement {
         Statement::Assign(_, name, _) => add_name(alloc, names, name),
-        Statement::Return(_, _) => Ok(()),
+        Statement::Return(_, _) => Ok(true),
         Statement::While(_, _, inside) => add_targets(alloc, names, inside.as_slice()),
     }
 }
 
-fn add_name(alloc: Global, names: &mut Items<Text>, name: &Text) -> Result<(), AllocError>
-    ensures { OnOk result (names.new ≡ sound.with_names names.old (name.now ∷ [])) }
+fn add_name(alloc: Global, names: &mut Items<Text>, name: &Text) -> Result<bool, AllocError>
+    requires { length names.old ≤ 255 }
+    ensures { IfOk result (λ few. sound.Added few names.new (sound.with_names names.old (name.now ∷ []))) }
 {
     if has_name(names.as_slice(), name) {
-        return Ok(());
+        return Ok(true);
     }
-    names.push(name.copy(alloc)?)
+    if names.len() == MOST {
+        return Ok(false);
+    }
+    names.push(name.copy(alloc)?)?;
+    Ok(true)
 }
 
 /// Whether a name is among these.

@@ -1,4 +1,4 @@
-use Rattle.std.proofs.Common.{◌≤◌, length, ap, arith, rules}
+use Rattle.std.proofs.Common.{◌≤◌, length, arith, rules}
 use Rattle.mon_compile.proofs.Assembled.{code_within, code_is}
 use Rattle.mon_compile.proofs.Membership.{parameters_few}
 use Rattle.mon_compile.proofs.compiler.code.Goals as goal

@@ -1,4 +1,4 @@
-use Rattle.std.proofs.Common.{◌≤◌, length, sym, ap, ◌∙◌, arith}
+use Rattle.std.proofs.Common.{◌≤◌, length, ap, ◌∙◌, arith}
 use Rattle.mon_compile.specs.Compiled.{bases_of}
 use Rattle.mon_compile.specs.Scheme.{function_code}
 use Rattle.mon_compile.proofs.Assembled.{parts_are, parts_checked}

@@ -1,4 +1,4 @@
-use Rattle.std.proofs.Common.{◌≡◌, ◌+◌, ◌*◌, [], ◌∷◌, drop}
+use Rattle.std.proofs.Common.{◌≡◌, ◌+◌, ◌*◌, drop}
 use Rattle.mon_compile.specs.Simple as spec
 use Rattle.mon_compile.proofs.Narrowing.{weight, weights, behind}
 use Rattle.mon_compile.proofs.narrow.+block_of.Given as goal

@@ -27,11 +27,10 @@ fn with_statements(alloc: Global, first: &str, count: usize) -> Result<String, F
 
 fn count_locals(alloc: Global, text: &[u8]) -> Result<usize, Fail> {
     let (program, _) = compiled(alloc, text)?;
-    let mut count = 0;
-    for code in program.codes.as_slice() {
-        count += code.locals.len();
-    }
-    Ok(count)
+    let [code] = program.codes.as_slice() else {
+        return Ok(0);
+    };
+    Ok(code.locals.len())
 }
 
 fn count_locations(alloc: Global, text: &[u8]) -> Result<usize, Fail> {
