@@ -1,5 +1,5 @@
 -- Each step of the one seat keeps the rule.
-use Rattle.std.proofs.Common.{◌≡◌, ℕ, zero, suc, ◌+◌, ◌-◌, ◌%◌, ◌<◌, ◌≤◌, ◌≢◌, List, [], ◌∷◌, ◌++◌, map, drop, length, get_or, set, replicate, sym, refl, ap, ◌∙◌, subst, ⊎_elim, arith, length-set, get_or-set_other, get_or-set_same, bit_and, eqb, true}
+use Rattle.std.proofs.Common.{◌≡◌, ℕ, zero, suc, ◌+◌, ◌-◌, ◌%◌, ◌<◌, ◌≤◌, ◌≢◌, List, [], ◌∷◌, ◌++◌, map, drop, length, get_or, set, replicate, sym, refl, ap, ◌∙◌, subst, ⊎_elim, arith, length-set, get_or-set_other, get_or-set_same, bit_and, eqb, Bool, true}
 use Rattle.std.specs.Prelude.{is_some}
 use mathlib.Core.Logic.{dite}
 use mathlib.Core.Option.{none, some, some-injective, some-ne-none}
@@ -20,7 +20,7 @@ use Rattle.mon_words.specs.declared.history.Written.{Written}
 use Rattle.mon_words.proofs.Histories.{after-off, after-put, upto-off, upto-put, upto-more, based-off, based-put}
 use Rattle.mon_words.proofs.Clearing.{apart}
 use Rattle.mon_words.proofs.Standing.{after-bases, same_length, same_base, bases_from, clear_stands, clear_stands_else, normal_stands, overlay-size, right_stands, right_base, table_at, noted_there, some_count, first_bases, first_stands, board-length}
-use Rattle.mon_board.specs.Plain.{first_board, PlainOk, PlainKept, first_plain, starting, Sat, standing, turned_to, polled, found, disabled, counted, noted, stored, put_of, released}
+use Rattle.mon_board.specs.Plain.{first_board, PlainOk, PlainKept, first_plain, starting, Sat, standing, turned_to, polled, found, disabled, retired, tried, counted, noted, stored, put_of, released}
 use Rattle.mon_board.specs.Plain as plain
 use Rattle.mon_board.specs.declared.plain_view.PlainView.{PlainView}
 use Rattle.mon_board.specs.declared.plain_view.PlainPlan.{PlainPlan}
@@ -107,18 +107,23 @@ word_ok about s r id i j y v at place low running shows =
           (λ ne. subst (Right first (after first v.seen) v.written a) (sym (get_or-set_other s.words i (about.threads + a) y 0 (λ e. ne (omega arith)))) (o.right a h));
     }
 
+-- the rule does not speak of the tries to retire
+tried_ok : (about : PlainPlan) (ws : List ℕ) (v : PlainView) (location old : ℕ) (done : Bool) → PlainOk about ws v → PlainOk about ws (tried v location old done)
+tried_ok about ws v location old done o = record { threads_are = o.threads_are; first_is = o.first_is; based = o.based; long = o.long; counts = o.counts; high = o.high; noted = o.noted; right = o.right }
+
 pub retires : (about : PlainPlan) (n id l i old new : ℕ) (m : Sat) → i ≡ m.0.threads + (7 + l) → l < length m.0.first.cells → m.0.written ≡ [] → new ≡ normal old
-    → Allows (PlainKept about) n id m i (λ y. either (eqb y old) new y) (found (step n i old new none) m)
+    → Allows (PlainKept about) n id m i (λ y. either (eqb y old) new y) (retired (step n i old new none) m)
 retires about n id l i old new m place low running is-normal s r long at fits =
-    let x : ℕ = get_or s.words i 0 in (
-      m.0,
+    let x : ℕ = get_or s.words i 0 in let o₀ : ℕ = i - m.0.threads - 7 in let w : PlainView = tried m.0 o₀ old (eqb x old) in let at-l : o₀ ≡ l = omega arith in (
+      w,
       keeps,
       tt,
-      exchanged x old new (λ y. PlainKept about record { words = set s.words i y; homes = s.homes; views = set s.views id m.0 })
-          (λ hit. only_me about s r id m.0 m.0 (set s.words i new) at (length-set s.words i new)
-          (word_ok about s r id i (7 + l) new m.0 at place (omega arith) running (λ b h. subst (Stands b (7 + l)) (sym (is-normal ∙ ap normal (sym hit))) (normal_stands b l x h))))
-          (λ miss. only_me about s r id m.0 m.0 (set s.words i x) at (length-set s.words i x) (word_ok about s r id i (7 + l) x m.0 at place (omega arith) running (λ b h. h))),
-      (shown about s r id i (7 + l) m.0 at place (omega arith), refl),
+      exchanged x old new (λ y. PlainKept about record { words = set s.words i y; homes = s.homes; views = set s.views id w })
+          (λ hit. only_me about s r id m.0 w (set s.words i new) at (length-set s.words i new)
+          (tried_ok about (set s.words i new) m.0 o₀ old (eqb x old) (word_ok about s r id i (7 + l) new m.0 at place (omega arith) running (λ b h. subst (Stands b (7 + l)) (sym (is-normal ∙ ap normal (sym hit))) (normal_stands b l x h)))))
+          (λ miss. only_me about s r id m.0 w (set s.words i x) at (length-set s.words i x)
+          (tried_ok about (set s.words i x) m.0 o₀ old (eqb x old) (word_ok about s r id i (7 + l) x m.0 at place (omega arith) running (λ b h. h)))),
+      λ _. ((shown about s r id i (7 + l) m.0 at place (omega arith)).location o₀ (omega arith), refl),
     )
 
 pub disables : (about : PlainPlan) (n id i l k mask : ℕ) (m : Sat) → i ≡ m.0.threads + (7 + l) → l < length m.0.first.cells → m.0.written ≡ [] → k < 24 → mask ≡ mask_of k

@@ -9,7 +9,7 @@ use Rattle.mon_words.specs.declared.history.Board.{Board}
 use Rattle.mon_words.specs.declared.history.Mark.{Mark}
 use Rattle.mon_words.specs.declared.history.Mark.TheVariants.{Off, Put}
 use Rattle.mon_words.proofs.Histories.{begins_all, offs-same, still-whole}
-use Rattle.mon_board.specs.Plain.{standing}
+use Rattle.mon_board.specs.Plain.{standing, tried}
 use Rattle.mon_board.specs.PlainViews.{plain_told, other_counts, other_marks}
 use Rattle.mon_board.specs.declared.plain_view.PlainView.{PlainView}
 use Rattle.mon_board.proofs.Bases.{shown_base}
@@ -22,8 +22,13 @@ module _ (t : ℕ) (a : Bool) (v w : PlainView) (running : v.written ≡ []) whe
   loads l n based same h = subst (λ (z : PlainView). Loads (plain_told t a v) l n (plain_told t a z)) (sym same)
       record { begins = begins_all v.seen; quiet = refl; own = refl; rest = refl; shows = subst (λ (b : Board). Shows (cell_at b l) n) stood h; base = shown_base (standing v) v.first l n based h }
 
-  pub retires : (l old n : ℕ) (answer : Bool) → map base_in (standing v).cells ≡ map base_in v.first.cells → w ≡ v → answer ≡ (n == old) → Shows (cell_at (standing v) l) n → Retires (plain_told t a v) l old answer (plain_told t a w)
-  retires l old n answer based same is h = record { found = n; loads = loads l n based same h; answer_is = is }
+  pub retires : (l old n : ℕ) (answer : Bool) → map base_in (standing v).cells ≡ map base_in v.first.cells → w ≡ tried v l old answer → answer ≡ (n == old) → Shows (cell_at (standing v) l) n → Retires (plain_told t a v) l old answer (plain_told t a w)
+  retires l old n answer based same is h = subst (λ (z : PlainView). Retires (plain_told t a v) l old answer (plain_told t a z)) (sym same)
+      record {
+        found = n;
+        loads = record { begins = begins_all v.seen; quiet = refl; own = refl; rest = refl; shows = subst (λ (b : Board). Shows (cell_at b l) n) stood h; base = shown_base (standing v) v.first l n based h };
+        answer_is = is;
+      }
 
   pub loads_global : (n : ℕ) → w ≡ v → Stands (standing v) 0 n → LoadsGlobal (plain_told t a v) n (plain_told t a w)
   loads_global n same h = subst (λ (z : PlainView). LoadsGlobal (plain_told t a v) n (plain_told t a z)) (sym same)

@@ -1,10 +1,10 @@
 -- The rule of a board with one seat, and what each kind of its steps tells. First comes a step count for each thread, then the
 -- words of the board: the global word, six callback words, and a word for each location.
-use Rattle.std.specs.Prelude.{◌≡◌, ℕ, ◌+◌, ◌-◌, ◌<◌, List, [], ◌∷◌, ◌++◌, map, drop, length, replicate, slice_index, slice_set}
+use Rattle.std.specs.Prelude.{◌≡◌, ℕ, ◌+◌, ◌-◌, ◌<◌, ◌==◌, Bool, List, [], ◌∷◌, ◌++◌, map, drop, length, replicate, slice_index, slice_set}
 use mathlib.Core.Option.{some}
 use lib.ListN.{get_elem?}
 use Rattle.atomic_table.specs.Table.{State, Me, Step}
-use Rattle.mon_words.specs.Words.{Shows, mask_of}
+use Rattle.mon_words.specs.Words.{Shows, mask_of, normal}
 use Rattle.mon_words.specs.History.{cell_at, after, UpTo, HasBases, Based, base_in}
 use Rattle.mon_words.specs.Standing.{size, board_of, Stands, overlay, Right, count_of, table}
 use Rattle.mon_words.specs.declared.history.Board.{Board}
@@ -40,7 +40,7 @@ pub record PlainKept (about : PlainPlan) (s : State (Unit {0}) PlainView) : Type
   pub ok : (k : ℕ) (v : PlainView) → get_elem? s.views k ≡ some v → PlainOk about s.words v
 
 abbrev pub first_plain : ℕ → Board → PlainView
-first_plain threads first = record { threads = threads; first = first; seen = []; counts = replicate threads 0; polls = 0; current = 0; noted = []; written = [] }
+first_plain threads first = record { threads = threads; first = first; seen = []; counts = replicate threads 0; polls = 0; retirements = []; current = 0; noted = []; written = [] }
 
 abbrev pub starting : PlainPlan → PlainView
 starting about = first_plain about.threads (first_board about)
@@ -73,6 +73,15 @@ found st m n m' = Stands (standing m.0) (spot st m) n × (m' ≡ m)
 abbrev pub disabled : Tells
 disabled st m n m' = (k : ℕ) → k < 24 → st.first ≡ mask_of k
     → Shows (cell_at (standing m.0) (spot st m - 7)) n × (m' ≡ (record m.0 { seen = m.0.seen ++ Off m.0.current (spot st m - 7) k ∷ [] }, m.1))
+
+-- one more try to retire the word of a location
+abbrev pub tried : PlainView → ℕ → ℕ → Bool → PlainView
+tried v location old done = record v { retirements = v.retirements ++ record { location = location; old = old; done = done } ∷ [] }
+
+-- the old word of a location gives way to its normal word, where it is found
+abbrev pub retired : Tells
+retired st m n m' = st.second ≡ normal st.first
+    → Shows (cell_at (standing m.0) (spot st m - 7)) n × (m' ≡ (tried m.0 (spot st m - 7) st.first (n == st.first), m.1))
 
 abbrev pub counted : Tells
 counted st m n m' = m' ≡ (record m.0 { counts = slice_set m.0.counts st.word n }, m.1)

@@ -10,7 +10,7 @@ use Rattle.mon_board.specs.Plain.{standing}
 use Rattle.mon_board.specs.declared.plain_view.PlainView.{PlainView}
 
 abbrev pub plain_told : ℕ → Bool → PlainView → Told
-plain_told thread attached v = record { number = thread; first = v.first; seen = v.seen; own = offs thread v.seen; attached = attached; count = slice_index v.counts thread; polls = v.polls; polled = 0 }
+plain_told thread attached v = record { number = thread; first = v.first; seen = v.seen; own = offs thread v.seen; attached = attached; count = slice_index v.counts thread; polls = v.polls; polled = 0; retirements = v.retirements }
 
 -- the stored counts, with 0 in place of the thread's own
 abbrev pub other_counts : ℕ → List ℕ → List ℕ

@@ -4,7 +4,9 @@ ghost use Rattle.mon_words.specs.History.{base_in};
 ghost use Rattle.mon_board.specs.Plain.{standing};
 ghost use Rattle.mon_board.specs.declared.plain.BoardFault.TheVariants as board_fault;
 
-use crate::plain_play::{Count, Disable, Find, Note, PlainRule, Poll, Release, Store, Turn};
+use crate::plain_play::{
+    Count, Disable, Find, Note, PlainRule, Poll, Release, Retire, Store, Turn,
+};
 use crate::plain_view::{PlainPlan, PlainView};
 use atomic_table::{Seat, Table};
 use mon_words::normal;
@@ -56,7 +58,7 @@ impl PlainBoard {
     ghost use Rattle.mon_words.specs.Told.{OneBit};
     ghost use Rattle.mon_words.specs.Standing.{board_of, IsFirst, Stands};
     ghost use Rattle.mon_words.specs.declared.history.Mark.TheVariants.{Off};
-    ghost use Rattle.mon_board.specs.Plain.{first_plain, put_of};
+    ghost use Rattle.mon_board.specs.Plain.{first_plain, put_of, tried};
     ghost use Rattle.mon_board.specs.PlainViews.{IsRunning, IsNoted};
     ghost use Rattle.mon_board.specs.SameBoard.{SameSize};
 
@@ -119,12 +121,13 @@ impl PlainBoard {
         self.table.shared.fetch_and::<Disable>(chair, place, mask)
     }
 
-    // Gives a location the word with the least instrumented opcode for its bits, where the old word is found there.
+    // One try to give a location the word with the least instrumented opcode for the old word's bits. Where another word than
+    // the old one is found there, it answers false and leaves the word.
     pub(crate) fn retire(&mut self, location: u32, old: u64) -> bool
         requires running { IsRunning self.old.chair.me.0 }
         requires within { location < self.old.locations }
         ensures size { SameSize self.old self.new }
-        ensures view { self.new.chair.me.0 ≡ self.old.chair.me.0 }
+        ensures view { self.new.chair.me.0 ≡ tried self.old.chair.me.0 location old result }
         ensures answer { (found : ℕ) × (result ≡ (found == old)) × Shows (cell_at (standing self.old.chair.me.0) location) found }
     {
         let new = normal(old);
@@ -133,7 +136,7 @@ impl PlainBoard {
         let found = self
             .table
             .shared
-            .compare_exchange::<Find>(chair, place, old, new);
+            .compare_exchange::<Retire>(chair, place, old, new);
         found == old
     }
 

@@ -1,5 +1,5 @@
 //! The rule of a plain board, and the names of its kinds of step.
-ghost use Rattle.mon_board.specs.Plain.{PlainKept, starting, turned_to, polled, found, disabled, counted, noted, stored, released};
+ghost use Rattle.mon_board.specs.Plain.{PlainKept, starting, turned_to, polled, found, disabled, retired, counted, noted, stored, released};
 
 use crate::plain_view::{PlainPlan, PlainView};
 use atomic_table::{Play, TableRule};
@@ -34,6 +34,12 @@ pub struct Disable;
 
 impl Play<(), PlainView> for Disable {
     ghost then = { disabled };
+}
+
+pub struct Retire;
+
+impl Play<(), PlainView> for Retire {
+    ghost then = { retired };
 }
 
 pub struct Count;

@@ -1,6 +1,6 @@
 //! What the one seat of a plain board knows. No value of these types is made when the program runs, but for [`PlainPlan`].
 
-use mon_words::{Board, Mark, Noted, Written};
+use mon_words::{Board, Mark, Noted, Retirement, Written};
 use std::alloc::Global;
 use std::collections::LinkedList;
 use std::snapshot::Snapshot;
@@ -16,6 +16,8 @@ pub struct PlainView {
     pub counts: LinkedList<u64>,
     /// The polls made.
     pub polls: u64,
+    /// The tries to retire a word, in order.
+    pub retirements: LinkedList<Retirement>,
     /// The thread whose handle was made last.
     pub current: u64,
     /// While the board is halted: the counts read and the words stored since, the last one first.

@@ -1,87 +1,73 @@
--- When a program is right: each instruction finds its operands, and goes where the depth that it leaves is recorded.
-use Rattle.std.specs.Prelude.{◌≡◌, ℕ, ◌+◌, ◌-◌, ◌<◌, ◌≤◌, ◌==◌, Bool, true, false, ◌&&◌, ◌||◌, not, IsTrue, List, [], ◌∷◌, length, Option, Some, None, is_some}
-use Rattle.mon_code.specs.declared.program.Code.{Code}
-use Rattle.mon_code.specs.declared.program.Location.{Location}
+-- When a program is right.
+use Rattle.std.specs.Prelude.{◌≡◌, ℕ, ◌+◌, ◌<◌, ◌≤◌, ◌==◌, Bool, true, false, ◌&&◌, ◌||◌, not, IsTrue, List, [], ◌∷◌, length, Option, Some, None, is_some, slice_get}
 use Rattle.mon_events.specs.declared.op.Op.{Op}
-use Rattle.mon_code.specs.Programs.{Parts, op_at, location_at}
+use Rattle.mon_values.specs.declared.value.Value.{Value}
+use Rattle.mon_values.specs.declared.value.Value.TheOpen.{Value-F, Exc-F}
+use Rattle.mon_values.specs.declared.value.Value.TheFolds.{fold-Value}
+use Rattle.mon_code.specs.declared.program.Code.{Code}
+use Rattle.mon_code.specs.declared.program.Handler.{Handler}
+use Rattle.mon_code.specs.declared.program.Location.{Location}
+use Rattle.mon_code.specs.declared.program.ModuleConstant.{ModuleConstant}
+use Rattle.mon_code.specs.Programs.{Parts, op_at}
+use Rattle.mon_code.specs.Effects.{effect_of}
+use Rattle.mon_code.specs.Depths.{Depth, Table, Records, Standing, Fits}
 
--- what an instruction does to the operand stack, and where it goes on
-pub record Effect : Type 0 where
-  -- the values that it takes away, and those that it then puts there
-  pub takes : ℕ
-  pub puts : ℕ
-  -- whether it may go on to the next index
-  pub goes_on : Bool
-  -- where it may jump
-  pub goes_to : Option ℕ
-
-abbrev pub plain : ℕ → ℕ → Effect
-plain takes puts = record { takes = takes; puts = puts; goes_on = true; goes_to = None }
-
-abbrev pub effect_of : Op → ℕ → Effect
-effect_of Op.Resume arg = plain 0 0
-effect_of Op.LoadConst arg = plain 0 1
-effect_of Op.LoadFast arg = plain 0 1
-effect_of Op.StoreFast arg = plain 1 0
-effect_of Op.BinaryOp arg = plain 2 1
-effect_of Op.CompareOp arg = plain 2 1
-effect_of Op.JumpBackward arg = record { takes = 0; puts = 0; goes_on = false; goes_to = Some arg }
-effect_of Op.PopJumpIfFalse arg = record { takes = 1; puts = 0; goes_on = true; goes_to = Some arg }
-effect_of Op.ReturnValue arg = record { takes = 1; puts = 0; goes_on = false; goes_to = None }
-
--- how many numbers the argument may be
-abbrev pub operands : Code → Op → Option ℕ
-operands c Op.LoadConst = Some (length c.constants)
-operands c Op.LoadFast = Some (length c.locals)
-operands c Op.StoreFast = Some (length c.locals)
-operands c Op.BinaryOp = Some 5
-operands c Op.CompareOp = Some 6
-operands c Op.Resume = None
-operands c Op.JumpBackward = None
-operands c Op.PopJumpIfFalse = None
-operands c Op.ReturnValue = None
-
-abbrev pub IsWithin : ℕ → Option ℕ → Type 0
-IsWithin arg None = Unit {0}
-IsWithin arg (Some count) = arg < count
-
-abbrev pub depth_in : Option Location → Option ℕ
+abbrev pub depth_in : Option Location → Option Depth
 depth_in None = None
-depth_in (Some l) = Some l.depth
+depth_in (Some l) = Some (record { stack = l.stack; handling = l.handling })
 
--- an index of the code has this depth recorded
-abbrev pub Records : Code → ℕ → ℕ → Type 0
-Records c at depth = depth_in (location_at c at) ≡ Some depth
+-- the depths that locations record
+abbrev pub table_of : List Location → Table
+table_of ls at = depth_in (slice_get ls at)
 
--- a jump finds an index other than 0 with this depth
-abbrev pub Lands : Code → Option ℕ → ℕ → Type 0
-Lands c None depth = Unit {0}
-Lands c (Some to) depth = (0 < to) × Records c to depth
+abbrev pub standing : Op → Location → Standing
+standing op l = record { effect = effect_of op l.argument; to = l.argument; handler = l.handler; stack = l.stack; handling = l.handling }
 
--- an instruction at an index
-pub record Fits (c : Code) (at : ℕ) (op : Op) (l : Location) : Type 0 where
-  pub has : (effect_of op l.argument).takes ≤ l.depth
-  pub operand : IsWithin l.argument (operands c op)
-  pub next : IsTrue (effect_of op l.argument).goes_on → Records c (at + 1) ((effect_of op l.argument).puts + (l.depth - (effect_of op l.argument).takes))
-  pub jumps : Lands c (effect_of op l.argument).goes_to ((effect_of op l.argument).puts + (l.depth - (effect_of op l.argument).takes))
+-- what an argument may be
+abbrev pub IsArgument : Code → Op → ℕ → Type 0
+IsArgument c Op.Resume n = n < 2
+IsArgument c Op.LoadConst n = n < length c.constants
+IsArgument c Op.LoadFast n = n < length c.locals
+IsArgument c Op.StoreFast n = n < length c.locals
+IsArgument c Op.DeleteFast n = n < length c.locals
+IsArgument c Op.LoadGlobal n = n < length c.globals
+IsArgument c Op.LoadMethod n = (10 < n) × (n < 14)
+IsArgument c Op.BinaryOp n = n < 5
+IsArgument c Op.CompareOp n = n < 6
+IsArgument c Op.ContainsOp n = n < 2
+IsArgument c Op.IsOp n = n < 2
+IsArgument c Op.RaiseVarargs n = n < 2
+IsArgument c _ n = Unit {0}
 
-abbrev pub FitsOp : Code → ℕ → Option Op → Location → Type 0
-FitsOp c at None l = ⊥
-FitsOp c at (Some op) l = Fits c at op l
+-- RETURN_GENERATOR stands at index 0 alone, and YIELD_VALUE only in a code that begins with it
+abbrev pub begins_generator : Option Op → Bool
+begins_generator (Some Op.ReturnGenerator) = true
+begins_generator _ = false
 
--- whether an instruction jumps to an index
-abbrev pub jumps_to : Option ℕ → ℕ → Bool
-jumps_to None at = false
-jumps_to (Some to) at = to == at
+abbrev pub MayStand : Bool → ℕ → Op → Type 0
+MayStand generates at Op.ReturnGenerator = at ≡ 0
+MayStand generates at Op.YieldValue = IsTrue generates
+MayStand generates at _ = Unit {0}
 
-abbrev pub op_jumps_to : Option Op → ℕ → ℕ → Bool
-op_jumps_to None arg at = false
-op_jumps_to (Some op) arg at = jumps_to (effect_of op arg).goes_to at
+-- a thread may stop before these
+abbrev pub is_safe : Op → Bool
+is_safe Op.Resume = true
+is_safe Op.JumpBackward = true
+is_safe _ = false
 
--- whether one of these instructions, the first of which has the index `from`, jumps to `at`
-abbrev pub is_target : List ℕ → Code → ℕ → List Location → ℕ → Bool
-is_target bases c from [] at = false
-is_target bases c from (l ∷ ls) at = op_jumps_to (op_at bases c from) l.argument at || is_target bases c (from + 1) ls at
+-- whether an exception goes to an index
+abbrev pub catches_at : Option Handler → ℕ → Bool
+catches_at None at = false
+catches_at (Some h) at = h.to == at
+
+abbrev pub jumps_to : Option Op → ℕ → ℕ → Bool
+jumps_to None argument at = false
+jumps_to (Some op) argument at = (effect_of op argument).jumps && argument == at
+
+-- whether one of these instructions, the first of which has the index `from`, has `at` for the target of its jump or handler
+abbrev pub is_target : List ℕ → ℕ → ℕ → List Location → ℕ → Bool
+is_target bases first from [] at = false
+is_target bases first from (l ∷ ls) at = jumps_to (op_at bases first from) l.argument at || (catches_at l.handler at || is_target bases first (from + 1) ls at)
 
 abbrev pub same_line : Option ℕ → Option ℕ → Bool
 same_line None None = true
@@ -95,22 +81,61 @@ follows_line None line = false
 follows_line (Some before) line = same_line before line
 
 -- a location is marked where it has a line and is the first of its code, or follows an instruction with another line or
--- none, or is the target of a jump
+-- none, or is the target of a jump or handler
 abbrev pub is_marked : List ℕ → Code → ℕ → Option (Option ℕ) → Option ℕ → Bool
-is_marked bases c at before line = is_some line && (not (follows_line before line) || is_target bases c 0 c.locations at)
+is_marked bases c at before line = is_some line && (not (follows_line before line) || is_target bases c.first 0 c.locations at)
 
--- instructions in turn, from an index on, behind one with the line `before`
-abbrev pub AllFit : List ℕ → Code → ℕ → Option (Option ℕ) → List Location → Type 0
-AllFit bases c at before [] = Unit {0}
-AllFit bases c at before (l ∷ ls) =
-    FitsOp c at (op_at bases c at) l × (l.is_marked ≡ is_marked bases c at before l.line) × AllFit bases c (at + 1) (Some l.line) ls
+-- an instruction at an index, behind one with the line `before`
+pub record IsLocation (bases : List ℕ) (c : Code) (at : ℕ) (before : Option (Option ℕ)) (op : Op) (l : Location) : Type 0 where
+  pub fits : Fits (table_of c.locations) at (standing op l)
+  pub argument : IsArgument c op l.argument
+  pub stands : MayStand (begins_generator (op_at bases c.first 0)) at op
+  pub safe : l.is_safe ≡ is_safe op
+  pub marked : l.is_marked ≡ is_marked bases c at before l.line
 
--- a code: it begins with nothing on the stack
+abbrev pub HasOp : List ℕ → Code → ℕ → Option (Option ℕ) → Option Op → Location → Type 0
+HasOp bases c at before None l = ⊥
+HasOp bases c at before (Some op) l = IsLocation bases c at before op l
+
+-- locations in turn, from an index on
+abbrev pub AllLocations : List ℕ → Code → ℕ → Option (Option ℕ) → List Location → Type 0
+AllLocations bases c at before [] = Unit {0}
+AllLocations bases c at before (l ∷ ls) = HasOp bases c at before (op_at bases c.first at) l × AllLocations bases c (at + 1) (Some l.line) ls
+
+-- a constant is None, a truth value, an integer, a text, or a tuple of constants
+abbrev pub all_true : List Bool → Bool
+all_true [] = true
+all_true (b ∷ bs) = b && all_true bs
+
+abbrev pub constant_step : Value-F Bool Bool → Bool
+constant_step Value-F.None = true
+constant_step (Value-F.Bool b) = true
+constant_step (Value-F.Int n) = true
+constant_step (Value-F.Text t) = true
+constant_step (Value-F.Tuple items) = all_true items
+constant_step _ = false
+
+abbrev pub never : Exc-F Bool Bool → Bool
+never e = false
+
+abbrev pub is_constant : Value → Bool
+is_constant = fold-Value Bool Bool constant_step never
+
+abbrev pub AllConstants : List Value → Type 0
+AllConstants [] = Unit {0}
+AllConstants (v ∷ vs) = IsTrue (is_constant v) × AllConstants vs
+
+abbrev pub AllNamed : List ModuleConstant → Type 0
+AllNamed [] = Unit {0}
+AllNamed (c ∷ cs) = IsTrue (is_constant c.value) × AllNamed cs
+
+-- a code: it begins with nothing on the stack and on the handling list
 pub record IsCode (bases : List ℕ) (c : Code) : Type 0 where
   pub parameters : c.parameters ≤ length c.locals
   pub locals : length c.locals ≤ 255
-  pub start : Records c 0 0
-  pub each : AllFit bases c 0 None c.locations
+  pub constants : AllConstants c.constants
+  pub start : Records (table_of c.locations) 0 0 0
+  pub each : AllLocations bases c 0 None c.locations
 
 -- codes in turn, the first of which begins with a location
 abbrev pub AllCodes : List ℕ → ℕ → List Code → Type 0
@@ -120,5 +145,5 @@ AllCodes bases from (c ∷ cs) = (c.first ≡ from) × IsCode bases c × AllCode
 pub record IsChecked (p : Parts) : Type 0 where
   pub named : length p.names ≡ length p.codes
   pub small : length p.bases ≤ 65536
-  pub few : length p.codes ≤ 65536
+  pub constants : AllNamed p.constants
   pub codes : AllCodes p.bases 0 p.codes

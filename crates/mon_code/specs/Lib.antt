@@ -1,3 +1,5 @@
 pub mod Programs
+pub mod Effects
+pub mod Depths
 pub mod Checked
 pub mod Operators

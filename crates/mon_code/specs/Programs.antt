@@ -1,13 +1,16 @@
 -- The parts of a program, and what is found in it.
-use Rattle.std.specs.Prelude.{ℕ, ◌+◌, ◌==◌, ◌&&◌, Bool, true, false, List, [], ◌∷◌, Option, Some, None, slice_get, if◌then◌else◌}
+use Rattle.std.specs.Prelude.{◌≡◌, ℕ, ◌+◌, ◌<◌, ◌==◌, ◌&&◌, Bool, true, false, List, [], ◌∷◌, length, Option, Some, None, slice_get, if◌then◌else◌}
 use Rattle.mon_code.specs.declared.program.Code.{Code}
 use Rattle.mon_code.specs.declared.program.Location.{Location}
+use Rattle.mon_code.specs.declared.program.ModuleConstant.{ModuleConstant}
 use Rattle.mon_events.specs.declared.op.Op.{Op}
 use Rattle.mon_events.specs.Ops.{op_of}
 
 pub record Parts : Type 0 where
   -- the names of the codes
   pub names : List (List ℕ)
+  -- the constants that the module names
+  pub constants : List ModuleConstant
   pub codes : List Code
   -- the base opcode of each location, by its number
   pub bases : List ℕ
@@ -32,9 +35,16 @@ abbrev pub op_in : Option ℕ → Option Op
 op_in None = None
 op_in (Some base) = op_of base
 
--- the opcode at an index of a code
-abbrev pub op_at : List ℕ → Code → ℕ → Option Op
-op_at bases c at = op_in (slice_get bases (c.first + at))
+-- the opcode at an index of the code whose first location is given
+abbrev pub op_at : List ℕ → ℕ → ℕ → Option Op
+op_at bases first at = op_in (slice_get bases (first + at))
 
 abbrev pub location_at : Code → ℕ → Option Location
 location_at c at = slice_get c.locations at
+
+-- the code of a location's number, and the location's index there
+pub record StandsAt (p : Parts) (number code at : ℕ) : Type 0 where
+  pub found : Code
+  pub is : slice_get p.codes code ≡ Some found
+  pub number_is : found.first + at ≡ number
+  pub within : at < length found.locations

@@ -1,22 +1,42 @@
-ghost use Rattle.std.specs.Prelude.{◌≡◌, ◌+◌, ◌≤◌, length, slice_get};
+//! A program, with all that is recorded at its locations.
+
+ghost use Rattle.std.specs.Prelude.{◌≡◌, ◌+◌, ◌<◌, ◌≤◌, length, slice_get};
 ghost use Rattle.std.specs.Option.{option_copied};
 ghost use Rattle.mon_code.specs.Programs as spec;
 
 use mon_values::text::Text;
+use mon_values::value::Value;
 use sqlite_items::Items;
 use std::marker::Model;
+
+/// Where an exception goes, and how much is left then below it: so many values on the operand stack, and so many
+/// exceptions on the handling list.
+#[derive(Clone, Copy, Debug, PartialEq, Eq)]
+pub struct Handler {
+    /// An index of the code.
+    pub to: u32,
+    pub stack: u32,
+    pub handling: u32,
+}
 
 /// What a code records of one of its locations. The offset of a location is twice its index in the code.
 #[derive(Clone, Copy, Debug, PartialEq, Eq)]
 pub struct Location {
-    /// The argument of the instruction: a number of a constant, a local or an operator, an index that is jumped to, or 0.
+    /// The argument of the instruction: a number of a constant, a local, a global or an operator, a count, an index that
+    /// is jumped to, or 0.
     pub argument: u32,
     /// The line in the file, counted from 1, where the instruction has one.
     pub line: Option<u32>,
     /// Whether a LINE event may occur here.
     pub is_marked: bool,
+    /// Whether a thread may be stopped here.
+    pub is_safe: bool,
+    /// Where an exception of the instruction goes, if the code catches it.
+    pub handler: Option<Handler>,
     /// How many values are on the operand stack before the instruction.
-    pub depth: u32,
+    pub stack: u32,
+    /// How many exceptions are on the handling list before it.
+    pub handling: u32,
 }
 
 /// A function's code.
@@ -26,10 +46,20 @@ pub struct Code {
     pub parameters: u16,
     /// The names of the locals.
     pub locals: Items<Text>,
-    pub constants: Items<mon_values::value::Value>,
+    /// The names that the code looks for in the module.
+    pub globals: Items<Text>,
+    /// The constants that the code loads.
+    pub constants: Items<Value>,
     /// The number of its first location in the program.
     pub first: u32,
     pub locations: Items<Location>,
+}
+
+/// A name of the module that stands for a constant.
+#[derive(Debug, Drop)]
+pub struct ModuleConstant {
+    pub name: Text,
+    pub value: Value,
 }
 
 /// A program whose codes were checked. The base opcodes of its locations are known to contracts alone: they are handed
@@ -38,6 +68,9 @@ pub struct Code {
 pub struct Program {
     /// The names of the codes, in order.
     pub names: Items<Text>,
+    /// The names of the module that stand for constants.
+    pub constants: Items<ModuleConstant>,
+    /// The codes, whose locations are numbered one code behind the other.
     pub codes: Items<Code>,
     bases: Items<u8>,
 }
@@ -46,17 +79,19 @@ impl Model for Program {
     ghost use Rattle.mon_code.specs.Programs.{Parts};
     ghost use Rattle.mon_code.specs.Checked.{IsChecked};
     ghost use Rattle.mon_code.specs.declared.program.Code.{Code as CodeOf};
+    ghost use Rattle.mon_code.specs.declared.program.ModuleConstant.{ModuleConstant as Named};
     ghost use Rattle.mon_code.specs.contracts.program.Code as code;
+    ghost use Rattle.mon_code.specs.contracts.program.ModuleConstant as named;
     ghost use Rattle.std.specs.Prelude.{ℕ, List, refl};
     ghost use Rattle.std.specs.Coded.{code_by, coded×, coded_list, coded_ℕ};
 
     ghost Value = { Parts };
 
-    ghost coded = { code_by (List (List ℕ) × (List CodeOf × List ℕ)) (coded× (coded_list (coded_list coded_ℕ)) (coded× (coded_list code.the_row.coded) (coded_list coded_ℕ))) (λ p. (p.names, (p.codes, p.bases))) (λ p. record { names = p.0; codes = p.1.0; bases = p.1.1 }) (λ _. refl) };
+    ghost coded = { code_by (List (List ℕ) × (List Named × (List CodeOf × List ℕ))) (coded× (coded_list (coded_list coded_ℕ)) (coded× (coded_list named.the_row.coded) (coded× (coded_list code.the_row.coded) (coded_list coded_ℕ)))) (λ p. (p.names, (p.constants, (p.codes, p.bases)))) (λ p. record { names = p.0; constants = p.1.0; codes = p.1.1.0; bases = p.1.1.1 }) (λ _. refl) };
 
-    ghost view = { λ p. record { names = p.names; codes = p.codes; bases = p.bases } };
+    ghost view = { λ p. record { names = p.names; constants = p.constants; codes = p.codes; bases = p.bases } };
 
-    ghost invariant = { λ p. IsChecked (record { names = p.names; codes = p.codes; bases = p.bases }) };
+    ghost invariant = { λ p. IsChecked (record { names = p.names; constants = p.constants; codes = p.codes; bases = p.bases }) };
 }
 
 impl Program {
@@ -64,12 +99,18 @@ impl Program {
     ghost use Rattle.mon_code.specs.declared.program.Code.{Code as CodeOf};
 
     /// The program of these codes.
-    pub fn new(names: Items<Text>, codes: Items<Code>, bases: Items<u8>) -> Program
-        requires { IsChecked (record { names = names; codes = codes; bases = bases }) }
-        ensures { result ≡ record { names = names; codes = codes; bases = bases } }
+    pub fn new(
+        names: Items<Text>,
+        constants: Items<ModuleConstant>,
+        codes: Items<Code>,
+        bases: Items<u8>,
+    ) -> Program
+        requires { IsChecked (record { names = names; constants = constants; codes = codes; bases = bases }) }
+        ensures { result ≡ record { names = names; constants = constants; codes = codes; bases = bases } }
     {
         Program {
             names,
+            constants,
             codes,
             bases,
         }
@@ -92,7 +133,24 @@ impl Program {
         self.codes.get(number as usize)
     }
 
+    /// The number of the code with this location, and the index of the location in it.
+    pub fn place(&self, location: u32) -> (u16, u32)
+        requires { location < length self.now.bases }
+        ensures { spec.StandsAt self.now location result.0 result.1 }
+    {
+        let mut left = location;
+        for (k, code) in self.codes.as_slice().iter().enumerate() {
+            let count = code.locations.len() as u32;
+            if left < count {
+                return (k as u16, left);
+            }
+            left -= count;
+        }
+        unreachable!()
+    }
+
     /// The number of the code with this name.
+    #[tactic(auto, using(crate::proofs::Codes::few_names))]
     pub fn code_named(&self, name: &str) -> Option<u16>
         ensures checked { IsChecked self.now }
         ensures value { result ≡ spec.code_named self.now name.now }

@@ -1,13 +1,34 @@
-//! From the tree of a module to its program.
+//! From the trees of a module to its program.
 #![tactic(auto)]
 
-mod compiler;
-mod emit;
-mod instruction;
-mod locals;
-mod names;
-mod narrow;
-mod place;
-pub mod tree;
+mod assembly;
+mod bindings;
+mod codes;
+mod compound;
+mod duplicates;
+mod earlier;
+mod expressions;
+mod fault;
+mod function;
+mod large;
+mod leaving;
+mod marking;
+mod misplaced;
+mod program;
+mod scheme_laws;
+mod scope;
+mod settle;
+mod simple;
+mod simplicity;
+mod surroundings;
+mod tree_fault;
+mod unbuilt;
+mod yields;
 
-pub use compiler::{CompileFault, compile, compiled_is_checked};
+pub use fault::CompileFault;
+pub use program::compile;
+pub use scheme_laws::{
+    code_has_labels_of_context, compiled_programs_are_checked, function_code_fits_depths,
+    simple_programs_have_simple_opcodes,
+};
+pub use simplicity::is_simple;

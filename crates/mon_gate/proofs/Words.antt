@@ -20,8 +20,9 @@ use Rattle.mon_words.proofs.Clearing.{apart}
 use Rattle.mon_words.proofs.Standing.{after-bases, same_length, clear_stands, clear_stands_else, normal_stands}
 use Rattle.mon_gate.specs.Sums.{total}
 use Rattle.mon_gate.specs.Rule.{St, works, numbered, leads, stops, alive, count_place, word_place, claim_word, count_at, word_at, first_board, first_bases, Leads, Kept}
-use Rattle.mon_gate.specs.Plays.{Sat, turned, Adds, loaded, disabled}
+use Rattle.mon_gate.specs.Plays.{Sat, turned, Adds, loaded, disabled, retired, tried}
 use Rattle.mon_gate.specs.declared.view.View.{View}
+use Rattle.mon_gate.specs.declared.view.Tally.{Tally}
 use Rattle.mon_gate.specs.declared.view.Plan.{Plan}
 use Rattle.mon_gate.specs.declared.view.Phase.TheVariants.{Attached}
 use Rattle.mon_gate.proofs.Totals.{term_le}
@@ -50,13 +51,13 @@ adds about s r id v at is = let ok = r.seats id v at in let p₁ : numbered v.ph
     record { begins = ok.begins; own = o.marks; all = sym (o.all (omega arith)); based = has_bases about s r id v at (omega (arith, ap alive is)) }
 
 -- a word that may stand for what stands already takes the place of one, while a thread works and sees the history
-word_step : (about : Plan) (s : St) (r : Kept about s) (id i j y : ℕ) (m : Sat) → get_elem? s.views id ≡ some m.0 → m.0.phase ≡ Attached → i ≡ word_place m.0.threads j → j < size m.0.first
-    → ((b : Board) → Stands b j (get_or s.words i 0) → Stands b j y) → Kept about (stepped s i y id m.1 (turned m m.0.phase r.log).0 keeps)
-word_step about s r id i j y m at is place low shows =
+word_step : (about : Plan) (s : St) (r : Kept about s) (id i j y : ℕ) (m : Sat) (t : Tally) → get_elem? s.views id ≡ some m.0 → m.0.phase ≡ Attached → i ≡ word_place m.0.threads j → j < size m.0.first
+    → ((b : Board) → Stands b j (get_or s.words i 0) → Stands b j y) → Kept about (stepped s i y id m.1 (record m.0 { seen = r.log; tally = t }) keeps)
+word_step about s r id i j y m t at is place low shows =
     let v = m.0 in let log : List Mark = r.log in let first : Board = first_board about in let ws : List ℕ = set s.words i y in let wide = r.wide in
     let p₁ : numbered v.phase ≡ 1 = ap numbered is in let p₂ : leads v.phase ≡ 0 = ap leads is in let p₃ : works v.phase ≡ 1 = ap works is in let p₄ : stops v.phase ≡ 0 = ap stops is in
     let ok = r.seats id v at in let o = ok.works (omega arith) in let told = ok.told (omega (arith, ap alive is)) in let t₀ = told.threads_are in
-    let w : View = (turned m v.phase log).0 in
+    let w : View = record v { seen = log; tally = t } in
     let low' : j < size first = subst (λ (f : Board). j < size f) told.first_is low in
     let count-stays : (z : ℕ) → z < about.threads → count_at ws z ≡ count_at s.words z = λ z h. get_or-set_other s.words i (count_place z) y 0 (λ e. absurd (omega arith)) in
     let one-stays : claim_word ws ≡ claim_word s.words = get_or-set_other s.words i 1 y 0 (λ e. absurd (omega arith)) in
@@ -95,20 +96,21 @@ word_step about s r id i j y m at is place low shows =
 -- a load of a word of the board by a thread
 pub loads : (about : Plan) (n id j i : ℕ) (m : Sat) → m.0.phase ≡ Attached → i ≡ word_place m.0.threads j → j < size m.0.first → Allows (Kept about) n id m i (λ y. y) (loaded (step n i 0 0 none) m)
 loads about n id j i m is place low s r long at fits =
-    ((turned m m.0.phase r.log).0, keeps, tt, word_step about s r id i j (get_or s.words i 0) m at is place low (λ b h. h), (r.log, adds about s r id m.0 at is, stands about s r id m.0 i j at is place low, refl))
+    ((turned m m.0.phase r.log).0, keeps, tt, word_step about s r id i j (get_or s.words i 0) m m.0.tally at is place low (λ b h. h), (r.log, adds about s r id m.0 at is, stands about s r id m.0 i j at is place low, refl))
 
 -- a word is retired
 pub retires : (about : Plan) (n id l i old new : ℕ) (m : Sat) → m.0.phase ≡ Attached → i ≡ word_place m.0.threads (7 + l) → l < length m.0.first.cells → new ≡ normal old
-    → Allows (Kept about) n id m i (λ y. either (eqb y old) new y) (loaded (step n i old new none) m)
+    → Allows (Kept about) n id m i (λ y. either (eqb y old) new y) (retired (step n i old new none) m)
 retires about n id l i old new m is place low is-normal s r long at fits =
-    let x : ℕ = get_or s.words i 0 in (
-      (turned m m.0.phase r.log).0,
+    let x : ℕ = get_or s.words i 0 in let o₀ : ℕ = i - (2 + m.0.threads) - 7 in let t : Tally = tried m.0.tally o₀ old (eqb x old) in
+    let w : View = record m.0 { seen = r.log; tally = t } in let at-l : o₀ ≡ l = omega arith in (
+      w,
       keeps,
       tt,
-      exchanged x old new (λ y. Kept about (stepped s i y id m.1 (turned m m.0.phase r.log).0 keeps))
-          (λ hit. word_step about s r id i (7 + l) new m at is place (omega arith) (λ b h. subst (Stands b (7 + l)) (sym (is-normal ∙ ap normal (sym hit))) (normal_stands b l x h)))
-          (λ miss. word_step about s r id i (7 + l) x m at is place (omega arith) (λ b h. h)),
-      (r.log, adds about s r id m.0 at is, stands about s r id m.0 i (7 + l) at is place (omega arith), refl),
+      exchanged x old new (λ y. Kept about (stepped s i y id m.1 w keeps))
+          (λ hit. word_step about s r id i (7 + l) new m t at is place (omega arith) (λ b h. subst (Stands b (7 + l)) (sym (is-normal ∙ ap normal (sym hit))) (normal_stands b l x h)))
+          (λ miss. word_step about s r id i (7 + l) x m t at is place (omega arith) (λ b h. h)),
+      λ _. (r.log, adds about s r id m.0 at is, (stands about s r id m.0 i (7 + l) at is place (omega arith)).location o₀ (omega arith), refl),
     )
 
 -- a disable

@@ -1,10 +1,10 @@
 -- What each kind of step tells: of the step, the seat before, the number found (at a store, the number stored) and the seat
 -- after.
-use Rattle.std.specs.Prelude.{◌≡◌, ◌≢◌, ◌⊎◌, ℕ, ◌+◌, ◌-◌, ◌%◌, ◌<◌, ◌≤◌, List, [], ◌∷◌, ◌++◌, map, length, nat_lt, nat_le, min, Some, if◌then◌else◌}
+use Rattle.std.specs.Prelude.{◌≡◌, ◌≢◌, ◌⊎◌, ℕ, ◌+◌, ◌-◌, ◌%◌, ◌<◌, ◌≤◌, ◌==◌, Bool, List, [], ◌∷◌, ◌++◌, map, length, nat_lt, nat_le, min, Some, if◌then◌else◌}
 use mathlib.Core.Option.{some}
 use lib.ListN.{get_elem?}
 use Rattle.atomic_table.specs.Table.{Me, Step}
-use Rattle.mon_words.specs.Words.{Shows, mask_of, stop_bit}
+use Rattle.mon_words.specs.Words.{Shows, mask_of, normal, stop_bit}
 use Rattle.mon_words.specs.History.{cell_at, after, offs, puts, Begins, Still, UpTo, HasBases, base_in}
 use Rattle.mon_words.specs.Standing.{Stands, overlay, noted_of, count_of, table}
 use Rattle.mon_words.specs.declared.history.Board.{Board}
@@ -62,7 +62,7 @@ dropped st m n m' = m' ≡ turned m Out m.0.seen
 
 -- a poll that found the gate word n
 abbrev pub looked : Tally → ℕ → Tally
-looked t n = record { polls = t.polls + 1; polled = if nat_le stop_bit n then t.polled + 1 else t.polled; found = n }
+looked t n = record t { polls = t.polls + 1; polled = if nat_le stop_bit n then t.polled + 1 else t.polled; found = n }
 
 abbrev pub polled : Tells
 polled st m n m' = m' ≡ (record m.0 { tally = looked m.0.tally n }, m.1)
@@ -91,6 +91,16 @@ abbrev pub disabled : Tells
 disabled st m n m' = (k : ℕ) → k < 24 → st.first ≡ mask_of k
     → (log : List Mark) × Adds m.0 log × Shows (cell_at (after m.0.first log) (spot st m - 7)) n
     × (m' ≡ (record m.0 { seen = log ++ off_of st m k ∷ []; mine = m.0.mine ++ off_of st m k ∷ [] }, m.1))
+
+-- one more try to retire the word of a location
+abbrev pub tried : Tally → ℕ → ℕ → Bool → Tally
+tried t location old done = record t { retirements = t.retirements ++ record { location = location; old = old; done = done } ∷ [] }
+
+-- the old word of a location gives way to its normal word, where it is found
+abbrev pub retired : Tells
+retired st m n m' = st.second ≡ normal st.first
+    → (log : List Mark) × Adds m.0 log × Shows (cell_at (after m.0.first log) (spot st m - 7)) n
+    × (m' ≡ (record m.0 { seen = log; tally = tried m.0.tally (spot st m - 7) st.first (n == st.first) }, m.1))
 
 -- the board that stands in a stop
 abbrev pub standing : View → Board

@@ -173,7 +173,7 @@ pub record Kept (about : Plan) (s : St) : Type 0 where
   pub longest : (k : ℕ) × (v : View) × (get_elem? s.views k ≡ some v) × (v.seen ≡ log)
 
 abbrev pub no_tally : Tally
-no_tally = record { polls = 0; polled = 0; found = 0 }
+no_tally = record { polls = 0; polled = 0; found = 0; retirements = [] }
 
 -- the view of the first pass when the gate is made
 abbrev pub first_view : ℕ → Board → View

@@ -1,6 +1,6 @@
 //! The rule of the table, and the names of its kinds of step.
 ghost use Rattle.mon_gate.specs.Rule.{Kept, starting, spent};
-ghost use Rattle.mon_gate.specs.Plays.{claimed, entered, dropped, polled, observed, counted, asked, released, loaded, disabled, read, stored, noted, settled, cut_left, cut_right, joined};
+ghost use Rattle.mon_gate.specs.Plays.{claimed, entered, dropped, polled, observed, counted, asked, released, loaded, disabled, retired, read, stored, noted, settled, cut_left, cut_right, joined};
 
 use crate::view::{Plan, View};
 use atomic_table::{Join, Play, Split, TableRule};
@@ -77,7 +77,7 @@ impl Play<(), View> for Disable {
 pub struct Retire;
 
 impl Play<(), View> for Retire {
-    ghost then = { loaded };
+    ghost then = { retired };
 }
 
 pub struct Read;

@@ -11,7 +11,7 @@ impl Seat {
     ghost use Rattle.mon_words.specs.declared.history.Mark.{Mark};
     ghost use Rattle.mon_words.specs.declared.history.Mark.TheVariants.{Off};
     ghost use Rattle.mon_gate.specs.Rule.{inside};
-    ghost use Rattle.mon_gate.specs.Plays.{Goes, Adds, looked};
+    ghost use Rattle.mon_gate.specs.Plays.{Goes, Adds, looked, tried};
     ghost use Rattle.mon_gate.specs.Seats.{Belongs, Disabled};
     ghost use Rattle.mon_gate.specs.declared.view.Phase.TheVariants.{Out, Attached};
 
@@ -143,14 +143,15 @@ impl Seat {
         gate.table.shared.fetch_and::<Disable>(chair, place, mask)
     }
 
-    /// Gives a location the word with the least instrumented opcode for its bits, where the old word is found there.
+    /// One try to give a location the word with the least instrumented opcode for the old word's bits. Where another word
+    /// than the old one is found there, it answers false and leaves the word.
     pub fn retire(&mut self, gate: &Gate, location: u32, old: u64) -> bool
         requires gate { Belongs self.old.chair gate.now }
         requires attached { self.old.chair.me.0.phase ≡ Attached }
         requires within { location < length self.old.chair.me.0.first.cells }
         ensures gate { self.new.chair.table_id ≡ self.old.chair.table_id }
         ensures number { self.new.number ≡ self.old.number }
-        ensures view { self.new.chair.me.0 ≡ record self.old.chair.me.0 { seen = self.new.chair.me.0.seen } }
+        ensures view { self.new.chair.me.0 ≡ record self.old.chair.me.0 { seen = self.new.chair.me.0.seen; tally = tried self.old.chair.me.0.tally location old result } }
         ensures seen { Adds self.old.chair.me.0 self.new.chair.me.0.seen }
         ensures answer { (found : ℕ) × (result ≡ (found == old)) × Shows (cell_at (after self.old.chair.me.0.first self.new.chair.me.0.seen) location) found }
     {

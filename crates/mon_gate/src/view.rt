@@ -1,6 +1,6 @@
 //! What each seat of the table knows. No value of these types is made when the program runs, but for [`Plan`].
 
-use mon_words::{Board, Mark, Noted, Written};
+use mon_words::{Board, Mark, Noted, Retirement, Written};
 use std::alloc::Global;
 use std::collections::LinkedList;
 use std::snapshot::Snapshot;
@@ -26,6 +26,8 @@ pub struct Tally {
     pub polled: u64,
     /// The gate word that the seat found last where it entered, polled or observed.
     pub found: u64,
+    /// The seat's tries to retire a word, in order.
+    pub retirements: LinkedList<Retirement>,
 }
 
 /// A thread number that ended: its disables, its last count, and the history that it had seen.

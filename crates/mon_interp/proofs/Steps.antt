@@ -29,7 +29,7 @@ runs : (p : Parts) (s : State) → s.mode ≡ Run → step p s ≡ in_code p (sl
 unfolding step
 runs p s e = ap (λ (m : Mode). in_mode p s.frame m) e
 
-in_found : (p : Parts) (s : State) (c : Code) → s.mode ≡ Run → Some c ≡ slice_get p.codes s.frame.code → step p s ≡ at_location p c (op_at p.bases c s.frame.index) (location_at c s.frame.index) s.frame
+in_found : (p : Parts) (s : State) (c : Code) → s.mode ≡ Run → Some c ≡ slice_get p.codes s.frame.code → step p s ≡ at_location p c (op_at p.bases c.first s.frame.index) (location_at c s.frame.index) s.frame
 in_found p s c e n = runs p s e ∙ ap (λ (o : Option Code). in_code p o s.frame) (sym n)
 
 pub no_code : (p : Parts) (s : State) → s.mode ≡ Run → None ≡ slice_get p.codes s.frame.code → step p s ≡ stuck s.frame
@@ -41,7 +41,7 @@ at_none p c (Some op) f = refl
 
 pub no_location : (p : Parts) (s : State) (c : Code) → s.mode ≡ Run → Some c ≡ slice_get p.codes s.frame.code → None ≡ slice_get c.locations s.frame.index → step p s ≡ stuck s.frame
 no_location p s c e n l =
-    in_found p s c e n ∙ ap (λ (o : Option Location). at_location p c (op_at p.bases c s.frame.index) o s.frame) (sym l) ∙ at_none p c (op_at p.bases c s.frame.index) s.frame
+    in_found p s c e n ∙ ap (λ (o : Option Location). at_location p c (op_at p.bases c.first s.frame.index) o s.frame) (sym l) ∙ at_none p c (op_at p.bases c.first s.frame.index) s.frame
 
 -- the opcode at a location is that of the base in its word
 base_op : (board : Board) (bases : List ℕ) (l word : ℕ) → map base_in board.cells ≡ bases → l < length board.cells → (cell_of word).base ≡ (cell_at board l).base → op_in (slice_get bases l) ≡ op_of (cell_of word).base

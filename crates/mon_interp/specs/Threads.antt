@@ -1,6 +1,6 @@
 -- Threads: how they begin, and what is due to a call of a function by its name.
 use Rattle.std.specs.Prelude.{◌≡◌, ℕ, ℤ, ◌==◌, Bool, false, List, [], length, map, Option, Some, None, Result, Ok, Err, slice_get, if◌then◌else◌}
-use Rattle.mon_values.specs.declared.value.Value.{Value, Int}
+use Rattle.mon_values.specs.declared.value.Value.{Value}
 use Rattle.mon_code.specs.declared.program.Code.{Code}
 use Rattle.mon_code.specs.Programs.{Parts, code_named}
 use Rattle.mon_machine.specs.Step.{start}
@@ -17,16 +17,16 @@ pub record ThreadView : Type 0 where
 abbrev pub beginning : Code → ℕ → List Value → ThreadView
 beginning c number args = record { progress = record { state = start c number args; records = []; steps = 0 }; failed = false }
 
-abbrev pub code_due : ℕ → Option Code → List ℤ → Result ThreadView EntryFault
+abbrev pub code_due : ℕ → Option Code → List Value → Result ThreadView EntryFault
 code_due number None args = Err NoFunction
-code_due number (Some c) args = if length args == c.parameters then Ok (beginning c number (map Int args)) else Err (WrongCount c.parameters)
+code_due number (Some c) args = if length args == c.parameters then Ok (beginning c number args) else Err (WrongCount c.parameters)
 
-abbrev pub number_due : Parts → Option ℕ → List ℤ → Result ThreadView EntryFault
+abbrev pub number_due : Parts → Option ℕ → List Value → Result ThreadView EntryFault
 number_due p None args = Err NoFunction
 number_due p (Some number) args = code_due number (slice_get p.codes number) args
 
 -- a call of the function of this name
-abbrev pub entry_due : Parts → List ℕ → List ℤ → Result ThreadView EntryFault
+abbrev pub entry_due : Parts → List ℕ → List Value → Result ThreadView EntryFault
 entry_due p name args = number_due p (code_named p name) args
 
 -- the due answer, or want of memory

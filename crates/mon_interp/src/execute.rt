@@ -219,5 +219,7 @@ pub fn execute(
         }
         Op::PopJumpIfFalse => Ok(pop_jump_if_false(frame, argument)),
         Op::ReturnValue => Ok(return_value(frame)),
+        // Not built yet.
+        _ => Ok(Mode::Stuck),
     }
 }

@@ -31,7 +31,7 @@ impl<R: Abort> Handle for LoudWords<'_, R> {
 
     type Rest = ();
 
-    ghost told = { λ w. record { number = 0; first = record { global = 0; callbacks = []; cells = map cell_of w.words.items }; seen = []; own = []; attached = w.attached; count = 0; polls = 0; polled = 0 } };
+    ghost told = { λ w. record { number = 0; first = record { global = 0; callbacks = []; cells = map cell_of w.words.items }; seen = []; own = []; attached = w.attached; count = 0; polls = 0; polled = 0; retirements = [] } };
 
     ghost rest = { λ w. tt };
 
@@ -89,46 +89,49 @@ const WORDS: [u64; 12] = [
     0xffff_fb00_0216_1d1d,
 ];
 
-fn at(argument: u32, line: Option<u32>, is_marked: bool, depth: u32) -> Location
-    ensures { result ≡ record { argument = argument; line = line; is_marked = is_marked; depth = depth } }
+fn at(argument: u32, line: Option<u32>, is_marked: bool, is_safe: bool, stack: u32) -> Location
+    ensures { result ≡ record { argument = argument; line = line; is_marked = is_marked; is_safe = is_safe; handler = None; stack = stack; handling = 0 } }
 {
     Location {
         argument,
         line,
         is_marked,
-        depth,
+        is_safe,
+        handler: None,
+        stack,
+        handling: 0,
     }
 }
 
 fn locations(alloc: Global) -> Result<Items<Location>, AllocError>
-    ensures { IfOk result (λ all. let location : ℕ → Option ℕ → Bool → ℕ → LocationOf = λ argument line is_marked depth. record { argument = argument; line = line; is_marked = is_marked; depth = depth } in
-        all ≡ location 0 None false 0
-        ∷ location 0 (Some 2) true 0
-        ∷ location 8 (Some 2) false 1
-        ∷ location 0 (Some 2) false 0
-        ∷ location 0 (Some 2) false 1
-        ∷ location 1 (Some 2) false 2
-        ∷ location 0 (Some 2) false 1
-        ∷ location 1 None false 0
-        ∷ location 0 (Some 3) true 0
-        ∷ location 0 (Some 3) false 1
-        ∷ location 1 None false 0
-        ∷ location 0 None false 1
+    ensures { IfOk result (λ all. let location : ℕ → Option ℕ → Bool → Bool → ℕ → LocationOf = λ argument line is_marked is_safe stack. record { argument = argument; line = line; is_marked = is_marked; is_safe = is_safe; handler = None; stack = stack; handling = 0 } in
+        all ≡ location 0 None false true 0
+        ∷ location 0 (Some 2) true false 0
+        ∷ location 8 (Some 2) false false 1
+        ∷ location 0 (Some 2) false false 0
+        ∷ location 0 (Some 2) false false 1
+        ∷ location 1 (Some 2) false false 2
+        ∷ location 0 (Some 2) false false 1
+        ∷ location 1 None false true 0
+        ∷ location 0 (Some 3) true false 0
+        ∷ location 0 (Some 3) false false 1
+        ∷ location 1 None false false 0
+        ∷ location 0 None false false 1
         ∷ []) }
 {
     let locations = [
-        at(0, None, false, 0),
-        at(0, Some(2), true, 0),
-        at(8, Some(2), false, 1),
-        at(0, Some(2), false, 0),
-        at(0, Some(2), false, 1),
-        at(1, Some(2), false, 2),
-        at(0, Some(2), false, 1),
-        at(1, None, false, 0),
-        at(0, Some(3), true, 0),
-        at(0, Some(3), false, 1),
-        at(1, None, false, 0),
-        at(0, None, false, 1),
+        at(0, None, false, true, 0),
+        at(0, Some(2), true, false, 0),
+        at(8, Some(2), false, false, 1),
+        at(0, Some(2), false, false, 0),
+        at(0, Some(2), false, false, 1),
+        at(1, Some(2), false, false, 2),
+        at(0, Some(2), false, false, 1),
+        at(1, None, false, true, 0),
+        at(0, Some(3), true, false, 0),
+        at(0, Some(3), false, false, 1),
+        at(1, None, false, false, 0),
+        at(0, None, false, false, 1),
     ];
     Items::from_slice(alloc, &locations)
 }
@@ -153,9 +156,11 @@ fn one_text(alloc: Global, text: &str) -> Result<Items<Text>, AllocError>
 fn program(alloc: Global) -> Result<Program, AllocError>
     ensures { IfOk result (λ p. p.bases ≡ 1 ∷ 3 ∷ 22 ∷ 3 ∷ 2 ∷ 8 ∷ 4 ∷ 21 ∷ 3 ∷ 29 ∷ 2 ∷ 29 ∷ []) }
 {
+    let globals = Items::new(alloc);
     let code = Code {
         parameters: 1,
         locals: one_text(alloc, "n")?,
+        globals,
         constants: constants(alloc)?,
         first: 0,
         locations: locations(alloc)?,
@@ -163,8 +168,9 @@ fn program(alloc: Global) -> Result<Program, AllocError>
     let mut codes = Items::new(alloc);
     codes.push(code)?;
     let names = one_text(alloc, "g")?;
+    let named = Items::new(alloc);
     let bases = Items::from_slice(alloc, &BASES)?;
-    Ok(Program::new(names, codes, bases))
+    Ok(Program::new(names, named, codes, bases))
 }
 
 fn loud_words<'a, R: Abort>(rt: &'a R, alloc: Global) -> Result<LoudWords<'a, R>, AllocError>
@@ -202,7 +208,7 @@ fn counts_down(
 {
     let program = program(alloc)?;
     let mut words = loud_words(rt, alloc)?;
-    let Ok(mut thread) = Thread::new(alloc, &program, "g", &[2]) else {
+    let Ok(mut thread) = Thread::new(alloc, &program, "g", &[Value::Int(2)]) else {
         return Ok(false);
     };
     if thread.steps() > 0 {

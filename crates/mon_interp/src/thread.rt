@@ -1,7 +1,6 @@
 ghost use Rattle.std.specs.Prelude.{◌≡◌, ◌≤◌, ◌-◌, ◌++◌, length, map, take, replicate, Some, None, OnOk, IfOk};
 ghost use Rattle.mon_interp.specs.declared.thread.AdvanceFault.TheVariants as advance_fault;
 ghost use Rattle.mon_interp.specs.declared.thread.EntryFault.TheVariants as entry_fault;
-ghost use Rattle.mon_values.specs.declared.value.Value.{Int};
 
 use crate::machine::Machine;
 use mon_code::{Code, Program};
@@ -88,21 +87,21 @@ impl Model for Thread {
 }
 
 // The locals of a call: the arguments, and the others unbound.
-fn locals_of(alloc: Global, count: usize, args: &[i64]) -> Result<Locals, AllocError>
+fn locals_of(alloc: Global, count: usize, args: &[Value]) -> Result<Locals, AllocError>
     requires { length args.now ≤ count }
-    ensures { IfOk result (λ locals. locals ≡ map Some (map Int args.now) ++ replicate (count - length args.now) None) }
+    ensures { IfOk result (λ locals. locals ≡ map Some args.now ++ replicate (count - length args.now) None) }
 {
     let mut locals = Locals::new(alloc);
-    push_bound(&mut locals, args)?;
+    push_bound(alloc, &mut locals, args)?;
     push_unbound(&mut locals, count - args.len())?;
     Ok(locals)
 }
 
-fn push_bound(locals: &mut Locals, args: &[i64]) -> Result<(), AllocError>
-    ensures { OnOk result (locals.new ≡ locals.old ++ map Some (map Int args.now)) }
+fn push_bound(alloc: Global, locals: &mut Locals, args: &[Value]) -> Result<(), AllocError>
+    ensures { OnOk result (locals.new ≡ locals.old ++ map Some args.now) }
 {
     for arg in args {
-        locals.push(Some(Value::Int(*arg)))?;
+        locals.push(Some(arg.copy(alloc)?))?;
     }
     Ok(())
 }
@@ -118,7 +117,6 @@ fn push_unbound(locals: &mut Locals, count: usize) -> Result<(), AllocError>
 
 impl Thread {
     ghost use Rattle.std.specs.Prelude.{◌≡◌, ◌+◌, ◌≤◌, length, map, true, false, not, IsTrue, OnOk, OnErr, IfOk, Ok, Err, []};
-    ghost use Rattle.mon_values.specs.declared.value.Value.{Int};
     ghost use Rattle.mon_words.specs.History.{base_in};
     ghost use Rattle.mon_words.specs.Told.{Sees};
     ghost use Rattle.mon_machine.specs.Step.{goes};
@@ -130,10 +128,10 @@ impl Thread {
         alloc: Global,
         code: &Code,
         number: u16,
-        args: &[i64],
+        args: &[Value],
     ) -> Result<Thread, AllocError>
         requires { length args.now ≤ length code.now.locals }
-        ensures { IfOk result (λ t. t ≡ beginning code.now number (map Int args.now)) }
+        ensures { IfOk result (λ t. t ≡ beginning code.now number args.now) }
     {
         let locals = locals_of(alloc, code.locals.len(), args)?;
         let frame = Frame {
@@ -161,7 +159,7 @@ impl Thread {
         alloc: Global,
         program: &Program,
         entry: &str,
-        args: &[i64],
+        args: &[Value],
     ) -> Result<Thread, EntryFault>
         ensures { AnswersEntry result (entry_due program.now entry.now args.now) }
     {

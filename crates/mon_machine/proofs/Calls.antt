@@ -1,5 +1,5 @@
 -- The laws of a call's run.
-use Rattle.std.proofs.Common.{◌≡◌, ℕ, zero, suc, ◌-◌, inr, List, length, map, replicate, refl, sym, ap, subst, ◌∙◌, arith, length-append}
+use Rattle.std.proofs.Common.{◌≡◌, ℕ, zero, suc, ◌+◌, ◌-◌, inr, List, length, map, replicate, refl, sym, ap, subst, ◌∙◌, arith, length-append}
 use Rattle.std.specs.Prelude.{Option, Some, None, slice_get}
 use Rattle.std.specs.List.{AllByRecursion}
 use Rattle.std.proofs.lemmas.List.{length-map, length-replicate}
@@ -8,14 +8,14 @@ use Rattle.mon_events.specs.declared.op.Op.{Op}
 use Rattle.mon_code.specs.declared.program.Code.{Code}
 use Rattle.mon_code.specs.declared.program.Location.{Location}
 use Rattle.mon_code.specs.Programs.{Parts, op_at, location_at}
-use Rattle.mon_code.specs.Checked.{IsCode, FitsOp}
+use Rattle.mon_code.specs.Checked.{IsCode, HasOp}
 use Rattle.mon_frames.specs.declared.frame.Frame.{Frame}
 use Rattle.mon_machine.specs.declared.mode.Mode.{Mode}
 use Rattle.mon_machine.specs.Step.{State, Step, step, in_mode, in_code, at_location, start}
 use Rattle.mon_machine.specs.Run.{after_steps, is_heard, heard}
 use Rattle.mon_machine.specs.Serial.{wants_line}
-use Rattle.mon_machine.specs.Laws.{IsCall, NeverStuck, MarksLine, LineMarks, HeardByWants}
-use Rattle.mon_machine.proofs.Fitting.{KnownAt, line_before, known_at, FoundAt, found_at, checked_code}
+use Rattle.mon_machine.specs.Laws.{AllRun, IsCall, NeverStuck, MarksLine, LineMarks, HeardByWants}
+use Rattle.mon_machine.proofs.Fitting.{line_before, known_at, FoundAt, found_at, checked_code}
 use Rattle.mon_machine.proofs.Keeping.{IsAt, IsIn, Keeps, executed_keeps}
 use Rattle.mon_machine.proofs.Lines.{executed_marked}
 use Rattle.mon_machine.proofs.Heard.{heard_marked, records_of_lines}
@@ -25,34 +25,34 @@ record Stays (bases : List ℕ) (c : Code) (k : ℕ) (s : Step) : Type 0 where
   keeps : Keeps bases c k s.after
   marks : AllByRecursion (MarksLine k c) s.events
 
-at_op : (p : Parts) (c : Code) (k : ℕ) (l : Location) (f : Frame) (op : Option Op) → op_at p.bases c f.index ≡ op → location_at c f.index ≡ Some l → length f.stack ≡ l.depth
-    → KnownAt p.bases c (line_before None c.locations f.index) f.index l → FitsOp c f.index op l → IsAt p.bases c k f → Stays p.bases c k (at_location p c op (Some l) f)
-at_op p c k l f None o stands depth known fits at = absurd fits
-at_op p c k l f (Some op) o stands depth known fits at = record { keeps = executed_keeps p c k op l f stands depth o fits at; marks = executed_marked p c k op l f stands known at }
+at_op : (p : Parts) (c : Code) (k : ℕ) (l : Location) (f : Frame) (op : Option Op) → AllRun p → op_at p.bases c.first f.index ≡ op → location_at c f.index ≡ Some l → length f.stack ≡ l.stack
+    → HasOp p.bases c f.index (line_before None c.locations f.index) op l → IsAt p.bases c k f → Stays p.bases c k (at_location p c op (Some l) f)
+at_op p c k l f None runs o stands depth known at = absurd known
+at_op p c k l f (Some op) runs o stands depth known at = record { keeps = executed_keeps p c k op l f stands depth o known (runs (c.first + f.index) op o) at; marks = executed_marked p c k op l f stands known at }
 
-in_run : (p : Parts) (c : Code) (k : ℕ) (f : Frame) → IsCode p.bases c → slice_get p.codes k ≡ Some c → IsAt p.bases c k f → Stays p.bases c k (in_code p (slice_get p.codes f.code) f)
-in_run p c k f is found at =
+in_run : (p : Parts) (c : Code) (k : ℕ) (f : Frame) → AllRun p → IsCode p.bases c → slice_get p.codes k ≡ Some c → IsAt p.bases c k f → Stays p.bases c k (in_code p (slice_get p.codes f.code) f)
+in_run p c k f runs is found at =
     let here : slice_get p.codes f.code ≡ Some c = ap (λ (n : ℕ). slice_get p.codes n) at.code ∙ found in
-    let place : FoundAt c f.index (length f.stack) = found_at c f.index (length f.stack) at.depth in
-    let known : KnownAt p.bases c (line_before None c.locations f.index) f.index place.location = known_at p.bases c f.index place.location is place.stands in
+    let place : FoundAt c f.index (length f.stack) at.handling = found_at c f.index (length f.stack) at.handling at.depth in
+    let known : HasOp p.bases c f.index (line_before None c.locations f.index) (op_at p.bases c.first f.index) place.location = known_at p.bases c f.index place.location is place.stands in
     subst (λ (o : Option Code). Stays p.bases c k (in_code p o f)) (sym here)
-    (subst (λ (o : Option Location). Stays p.bases c k (at_location p c (op_at p.bases c f.index) o f)) (sym place.stands)
-    (at_op p c k place.location f (op_at p.bases c f.index) refl place.stands (sym place.depth) known known.fits at))
+    (subst (λ (o : Option Location). Stays p.bases c k (at_location p c (op_at p.bases c.first f.index) o f)) (sym place.stands)
+    (at_op p c k place.location f (op_at p.bases c.first f.index) runs refl place.stands (sym place.stack) known at))
 
-in_mode_stays : (p : Parts) (c : Code) (k : ℕ) (f : Frame) (mode : Mode) → IsCode p.bases c → slice_get p.codes k ≡ Some c → IsIn p.bases c k f mode → Stays p.bases c k (in_mode p f mode)
-in_mode_stays p c k f Mode.Run is found at = in_run p c k f is found at
-in_mode_stays p c k f (Mode.Unwind e) is found at = record { keeps = tt; marks = (record { marked = λ h. cc; alone = λ h. cc }, tt) }
-in_mode_stays p c k f (Mode.Ended outcome) is found at = record { keeps = tt; marks = tt }
-in_mode_stays p c k f Mode.Stuck is found at = absurd at
+in_mode_stays : (p : Parts) (c : Code) (k : ℕ) (f : Frame) (mode : Mode) → AllRun p → IsCode p.bases c → slice_get p.codes k ≡ Some c → IsIn p.bases c k f mode → Stays p.bases c k (in_mode p f mode)
+in_mode_stays p c k f Mode.Run runs is found at = in_run p c k f runs is found at
+in_mode_stays p c k f (Mode.Unwind e) runs is found at = record { keeps = tt; marks = (record { marked = λ h. cc; alone = λ h. cc }, tt) }
+in_mode_stays p c k f (Mode.Ended outcome) runs is found at = record { keeps = tt; marks = tt }
+in_mode_stays p c k f Mode.Stuck runs is found at = absurd at
 
-step_stays : (p : Parts) (c : Code) (k : ℕ) (s : State) → IsCode p.bases c → slice_get p.codes k ≡ Some c → Keeps p.bases c k s → Stays p.bases c k (step p s)
+step_stays : (p : Parts) (c : Code) (k : ℕ) (s : State) → AllRun p → IsCode p.bases c → slice_get p.codes k ≡ Some c → Keeps p.bases c k s → Stays p.bases c k (step p s)
 unfolding step
-step_stays p c k s is found at = in_mode_stays p c k s.frame s.mode is found at
+step_stays p c k s runs is found at = in_mode_stays p c k s.frame s.mode runs is found at
 
-run_keeps : (p : Parts) (c : Code) (k : ℕ) (s : State) (n : ℕ) → IsCode p.bases c → slice_get p.codes k ≡ Some c → Keeps p.bases c k s → Keeps p.bases c k (after_steps p s n)
+run_keeps : (p : Parts) (c : Code) (k : ℕ) (s : State) (n : ℕ) → AllRun p → IsCode p.bases c → slice_get p.codes k ≡ Some c → Keeps p.bases c k s → Keeps p.bases c k (after_steps p s n)
 unfolding after_steps
-run_keeps p c k s zero is found at = at
-run_keeps p c k s (suc n) is found at = run_keeps p c k (step p s).after n is found (step_stays p c k s is found at).keeps
+run_keeps p c k s zero runs is found at = at
+run_keeps p c k s (suc n) runs is found at = run_keeps p c k (step p s).after n runs is found (step_stays p c k s runs is found at).keeps
 
 start_keeps : (p : Parts) (c : Code) (k : ℕ) (args : List Value) → IsCode p.bases c → length args ≡ c.parameters → Keeps p.bases c k (start c k args)
 start_keeps p c k args is count =
@@ -60,6 +60,7 @@ start_keeps p c k args is count =
     let rest : length (replicate {A = Option Value} (length c.locals - length args) None) ≡ length c.locals - length args = length-replicate (length c.locals - length args) None in
     record {
       code = refl;
+      handling = 0;
       depth = is.start;
       locals = length-append (map Some args) (replicate (length c.locals - length args) None) ∙ omega (arith, given, rest, is.parameters);
       line = inr tt;
@@ -69,7 +70,7 @@ start_keeps p c k args is count =
 pub call_keeps : (p : Parts) (k : ℕ) (c : Code) (args : List Value) → IsCall p k c args → (n : ℕ) → Keeps p.bases c k (after_steps p (start c k args) n)
 call_keeps p k c args call n =
     let is : IsCode p.bases c = checked_code p k c call.checked call.found in
-    run_keeps p c k (start c k args) n is call.found (start_keeps p c k args is call.count)
+    run_keeps p c k (start c k args) n call.runs is call.found (start_keeps p c k args is call.count)
 
 pub never_stuck : NeverStuck
 never_stuck p k c args call n stuck =
@@ -77,7 +78,7 @@ never_stuck p k c args call n stuck =
 
 pub line_marks : LineMarks
 line_marks p k c args call n =
-    (step_stays p c k (after_steps p (start c k args) n) (checked_code p k c call.checked call.found) call.found (call_keeps p k c args call n)).marks
+    (step_stays p c k (after_steps p (start c k args) n) call.runs (checked_code p k c call.checked call.found) call.found (call_keeps p k c args call n)).marks
 
 pub heard_by_wants : HeardByWants
 heard_by_wants p k c args call tool b wants = record { each_step = each; whole_run = λ i positions. records_of_lines p tool b i (start c k args) positions each }

@@ -212,14 +212,7 @@ main_other : (p : Parts) (op : Op) (event : Option Event) (location : ℕ) (f : 
 unfolding IsOtherKind
 main_other p op None location f next = tt
 main_other p Op.Resume (Some event) location f next = (refl, tt)
-main_other p Op.LoadConst (Some event) location f next = (refl, tt)
-main_other p Op.LoadFast (Some event) location f next = (refl, tt)
-main_other p Op.StoreFast (Some event) location f next = (refl, tt)
-main_other p Op.BinaryOp (Some event) location f next = (refl, tt)
-main_other p Op.CompareOp (Some event) location f next = (refl, tt)
-main_other p Op.JumpBackward (Some event) location f next = (refl, tt)
-main_other p Op.PopJumpIfFalse (Some event) location f next = (refl, tt)
-main_other p Op.ReturnValue (Some event) location f next = (refl, tt)
+main_other p _ (Some event) location f next = (refl, tt)
 
 raise_other : (p : Parts) (f : Frame) (mode : Mode) → AllByRecursion IsOtherKind (raise_events p f mode)
 unfolding IsOtherKind

@@ -1,22 +1,27 @@
 -- Worked examples: the premises of the laws can be met, and the definitions give what they should.
-use Rattle.std.proofs.Common.{◌≡◌, ℕ, Bool, true, false, [], ◌∷◌, refl, arith}
-use Rattle.std.specs.Prelude.{Option, Some, None, codes}
+use Rattle.std.proofs.Common.{◌≡◌, ℕ, zero, suc, Bool, true, false, ◌&&◌, List, [], ◌∷◌, refl, sym, ap, ◌∙◌, arith}
+use Rattle.std.specs.Prelude.{Option, Some, None, IsTrue, codes, slice_get}
 use Rattle.mon_values.specs.declared.value.Value.{Bool as Truth}
+use Rattle.mon_values.specs.declared.value.Value.TheOpen.{Value-F}
+use Rattle.mon_values.specs.declared.value.Value.TheFolds.{fold-roll-Value}
+use Rattle.mon_values.specs.declared.value.Value.TheViews as values
 use Rattle.mon_events.specs.declared.event.Event.{Event}
 use Rattle.mon_code.specs.declared.program.Code.{Code}
 use Rattle.mon_code.specs.declared.program.Location.{Location}
-use Rattle.mon_code.specs.Programs.{Parts}
-use Rattle.mon_code.specs.Checked.{IsChecked, IsCode}
+use Rattle.mon_code.specs.Programs.{Parts, op_in}
+use Rattle.mon_events.specs.declared.op.Op.{Op}
+use Rattle.mon_events.specs.Ops.{op_of}
+use Rattle.mon_code.specs.Checked.{IsChecked, IsCode, is_constant, constant_step, never}
 use Rattle.mon_recorders.specs.declared.record.Record.{Record}
 use Rattle.mon_recorders.specs.declared.report.Outcome.{Outcome}
 use Rattle.mon_machine.specs.declared.mode.Mode.{Mode}
 use Rattle.mon_machine.specs.Step.{step, start}
 use Rattle.mon_machine.specs.Run.{after_steps, steps_done, records_for}
 use Rattle.mon_machine.specs.Serial.{line_records}
-use Rattle.mon_machine.specs.Laws.{IsCall}
+use Rattle.mon_machine.specs.Laws.{IsCall, runs}
 
-abbrev location : ℕ → Option ℕ → Bool → ℕ → Location
-location argument line is_marked depth = record { argument = argument; line = line; is_marked = is_marked; depth = depth }
+abbrev location : ℕ → Option ℕ → Bool → Bool → ℕ → Location
+location argument line is_marked is_safe stack = record { argument = argument; line = line; is_marked = is_marked; is_safe = is_safe; handler = None; stack = stack; handling = 0 }
 
 -- 1 def f():
 -- 2     x = True
@@ -25,9 +30,10 @@ abbrev f : Code
 f = record {
   parameters = 0;
   locals = codes "x" ∷ [];
+  globals = [];
   constants = Truth true ∷ [];
   first = 0;
-  locations = location 0 None false 0 ∷ location 0 (Some 2) true 0 ∷ location 0 (Some 2) false 1 ∷ location 0 (Some 3) true 0 ∷ location 0 (Some 3) false 1 ∷ [];
+  locations = location 0 None false true 0 ∷ location 0 (Some 2) true false 0 ∷ location 0 (Some 2) false false 1 ∷ location 0 (Some 3) true false 0 ∷ location 0 (Some 3) false false 1 ∷ [];
 }
 
 -- 4 def g(y):
@@ -38,34 +44,64 @@ abbrev g : Code
 g = record {
   parameters = 1;
   locals = codes "y" ∷ [];
+  globals = [];
   constants = Truth true ∷ [];
   first = 5;
-  locations = location 0 None false 0 ∷ location 0 (Some 6) true 0 ∷ location 0 (Some 6) false 1 ∷ location 1 None false 0 ∷ [];
+  locations = location 0 None false true 0 ∷ location 0 (Some 6) true false 0 ∷ location 0 (Some 6) false false 1 ∷ location 1 None false true 0 ∷ [];
 }
 
 abbrev program : Parts
-program = record { names = codes "f" ∷ codes "g" ∷ []; codes = f ∷ g ∷ []; bases = 1 ∷ 2 ∷ 4 ∷ 3 ∷ 29 ∷ 1 ∷ 2 ∷ 4 ∷ 21 ∷ [] }
+program = record { names = codes "f" ∷ codes "g" ∷ []; constants = []; codes = f ∷ g ∷ []; bases = 1 ∷ 2 ∷ 4 ∷ 3 ∷ 29 ∷ 1 ∷ 2 ∷ 4 ∷ 21 ∷ [] }
+
+true_constant : IsTrue (is_constant (Truth true))
+true_constant = ap is_constant (sym (values.rolls-Bool true)) ∙ fold-roll-Value Bool Bool constant_step never (Value-F.Bool true)
 
 f_is_code : IsCode program.bases f
 f_is_code = record {
   parameters = omega arith;
   locals = omega arith;
+  constants = (true_constant, tt);
   start = refl;
   each = (
-    record { has = omega arith; operand = tt; next = λ _. refl; jumps = tt },
-    refl,
+    record {
+      fits = record { has = omega arith; holds = omega arith; next = λ _. refl; jumps = tt; caught = tt };
+      argument = omega arith;
+      stands = tt;
+      safe = refl;
+      marked = refl;
+    },
     (
-      record { has = omega arith; operand = omega arith; next = λ _. refl; jumps = tt },
-      refl,
+      record {
+        fits = record { has = omega arith; holds = omega arith; next = λ _. refl; jumps = tt; caught = tt };
+        argument = omega arith;
+        stands = tt;
+        safe = refl;
+        marked = refl;
+      },
       (
-        record { has = omega arith; operand = omega arith; next = λ _. refl; jumps = tt },
-        refl,
+        record {
+          fits = record { has = omega arith; holds = omega arith; next = λ _. refl; jumps = tt; caught = tt };
+          argument = omega arith;
+          stands = tt;
+          safe = refl;
+          marked = refl;
+        },
         (
-          record { has = omega arith; operand = omega arith; next = λ _. refl; jumps = tt },
-          refl,
+          record {
+            fits = record { has = omega arith; holds = omega arith; next = λ _. refl; jumps = tt; caught = tt };
+            argument = omega arith;
+            stands = tt;
+            safe = refl;
+            marked = refl;
+          },
           (
-            record { has = omega arith; operand = tt; next = λ h. cc; jumps = tt },
-            refl,
+            record {
+              fits = record { has = omega arith; holds = omega arith; next = λ h. cc; jumps = tt; caught = tt };
+              argument = tt;
+              stands = tt;
+              safe = refl;
+              marked = refl;
+            },
             tt,
           ),
         ),
@@ -78,19 +114,40 @@ g_is_code : IsCode program.bases g
 g_is_code = record {
   parameters = omega arith;
   locals = omega arith;
+  constants = (true_constant, tt);
   start = refl;
   each = (
-    record { has = omega arith; operand = tt; next = λ _. refl; jumps = tt },
-    refl,
+    record {
+      fits = record { has = omega arith; holds = omega arith; next = λ _. refl; jumps = tt; caught = tt };
+      argument = omega arith;
+      stands = tt;
+      safe = refl;
+      marked = refl;
+    },
     (
-      record { has = omega arith; operand = omega arith; next = λ _. refl; jumps = tt },
-      refl,
+      record {
+        fits = record { has = omega arith; holds = omega arith; next = λ _. refl; jumps = tt; caught = tt };
+        argument = omega arith;
+        stands = tt;
+        safe = refl;
+        marked = refl;
+      },
       (
-        record { has = omega arith; operand = omega arith; next = λ _. refl; jumps = tt },
-        refl,
+        record {
+          fits = record { has = omega arith; holds = omega arith; next = λ _. refl; jumps = tt; caught = tt };
+          argument = omega arith;
+          stands = tt;
+          safe = refl;
+          marked = refl;
+        },
         (
-          record { has = omega arith; operand = tt; next = λ h. cc; jumps = (omega arith, refl) },
-          refl,
+          record {
+            fits = record { has = omega arith; holds = omega arith; next = λ h. cc; jumps = (omega arith, refl); caught = tt };
+            argument = tt;
+            stands = tt;
+            safe = refl;
+            marked = refl;
+          },
           tt,
         ),
       ),
@@ -102,12 +159,35 @@ is_checked : IsChecked program
 is_checked = record {
   named = refl;
   small = omega arith;
-  few = omega arith;
+  constants = tt;
   codes = (refl, f_is_code, (refl, g_is_code, refl));
 }
 
+run_op : Option Op → Bool
+run_op None = true
+run_op (Some op) = runs op
+
+are_run : List ℕ → Bool
+are_run [] = true
+are_run (b ∷ bs) = run_op (op_of b) && are_run bs
+
+both_left : (x y : Bool) → (x && y) ≡ true → x ≡ true
+both_left true y e = refl
+both_left false y e = cc
+
+both_right : (x y : Bool) → (x && y) ≡ true → y ≡ true
+both_right true y e = e
+both_right false y e = cc
+
+all_run : (bases : List ℕ) → are_run bases ≡ true → (location : ℕ) (op : Op) → op_in (slice_get bases location) ≡ Some op → runs op ≡ true
+unfolding are_run run_op
+all_run [] e location op h = cc
+all_run (b ∷ bs) e zero op h = sym (ap run_op h) ∙ both_left (run_op (op_of b)) (are_run bs) e
+all_run (b ∷ bs) e (suc n) op h = all_run bs (both_right (run_op (op_of b)) (are_run bs) e) n op h
+
 f_is_called : IsCall program 0 f []
-f_is_called = record { checked = is_checked; found = refl; count = refl }
+unfolding are_run run_op
+f_is_called = record { checked = is_checked; runs = all_run program.bases refl; found = refl; count = refl }
 
 f_returns : (after_steps program (start f 0 []) 20).mode ≡ Mode.Ended (Outcome.Returned (Truth true))
 unfolding after_steps step

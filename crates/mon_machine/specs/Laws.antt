@@ -6,7 +6,8 @@ use Rattle.mon_events.specs.declared.event.Event.{Event}
 use Rattle.mon_events.specs.declared.event.Slot.{Slot}
 use Rattle.mon_code.specs.declared.program.Code.{Code}
 use Rattle.mon_code.specs.declared.program.Location.{Location}
-use Rattle.mon_code.specs.Programs.{Parts, location_at}
+use Rattle.mon_events.specs.declared.op.Op.{Op}
+use Rattle.mon_code.specs.Programs.{Parts, location_at, op_in}
 use Rattle.mon_code.specs.Checked.{IsChecked}
 use Rattle.mon_words.specs.declared.history.Board.{Board}
 use Rattle.mon_recorders.specs.Happenings.{Happening, Kind, Local, Global, Ancillary}
@@ -26,9 +27,27 @@ pub record IsRun (p : Parts) (s : State) (n : ℕ) : Type 0 where
 abbrev pub GoesOnByOne : Type 0
 GoesOnByOne = (p : Parts) (s : State) (n : ℕ) → IsRun p s n
 
+-- the opcodes that the machine runs so far
+abbrev pub runs : Op → Bool
+runs Op.Resume = true
+runs Op.LoadConst = true
+runs Op.LoadFast = true
+runs Op.StoreFast = true
+runs Op.BinaryOp = true
+runs Op.CompareOp = true
+runs Op.JumpBackward = true
+runs Op.PopJumpIfFalse = true
+runs Op.ReturnValue = true
+runs _ = false
+
+-- a program has no other
+abbrev pub AllRun : Parts → Type 0
+AllRun p = (location : ℕ) (op : Op) → op_in (slice_get p.bases location) ≡ Some op → runs op ≡ true
+
 -- a code of a checked program is called with as many arguments as it has parameters
 pub record IsCall (p : Parts) (k : ℕ) (c : Code) (args : List Value) : Type 0 where
   pub checked : IsChecked p
+  pub runs : AllRun p
   pub found : slice_get p.codes k ≡ Some c
   pub count : length args ≡ c.parameters
 

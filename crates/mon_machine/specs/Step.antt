@@ -90,7 +90,7 @@ abbrev pub return_value : Frame → List Value → State
 return_value f [] = ends f Mode.Stuck
 return_value f (v ∷ rest) = ends (record f { stack = rest }) (Mode.Ended (Outcome.Returned v))
 
--- what an instruction with this argument makes of its frame
+-- what an instruction with this argument makes of its frame; the other opcodes are not built yet
 abbrev pub effect : Code → Op → ℕ → Frame → State
 effect c Op.Resume arg f = goes_on f f.stack
 effect c Op.LoadConst arg f = load_const f (slice_get c.constants arg)
@@ -101,6 +101,7 @@ effect c Op.CompareOp arg f = compare_op (cmp_op_of arg) f
 effect c Op.JumpBackward arg f = ends (record f { index = arg }) Mode.Run
 effect c Op.PopJumpIfFalse arg f = pop_jump_if_false f arg f.stack
 effect c Op.ReturnValue arg f = return_value f f.stack
+effect c _ arg f = ends f Mode.Stuck
 
 -- the line of the last executed instruction that has one
 abbrev pub line_after : Option ℕ → Option ℕ → Option ℕ
@@ -164,9 +165,9 @@ at_location p c (Some op) (Some l) f = executed p c op l f
 
 abbrev pub in_code : Parts → Option Code → Frame → Step
 in_code p None f = stuck f
-in_code p (Some c) f = at_location p c (op_at p.bases c f.index) (location_at c f.index) f
+in_code p (Some c) f = at_location p c (op_at p.bases c.first f.index) (location_at c f.index) f
 
--- no frame has a handler: the exception leaves the only frame, and ends the thread
+-- handlers are not searched so far: the exception leaves the only frame, and ends the thread
 abbrev pub unwound : Parts → Frame → Exc → Step
 unwound p f e = record {
   after = ends f (Mode.Ended (Outcome.Raised e));

@@ -6,17 +6,17 @@ pub fn goes_on_by_one()
 {}
 
 /// A thread that calls a code of a checked program with the right number of arguments never misses an operand, a local
-/// or a location.
+/// or a location, if the program has no opcode but those that are run so far.
 pub fn never_stuck()
     ensures { NeverStuck }
 {}
 
-/// LINE events occur at marked locations alone.
+/// LINE events of such a thread occur at marked locations alone.
 pub fn line_marks()
     ensures { LineMarks }
 {}
 
-/// Where LINE is enabled for one tool at the marked locations alone, that tool hears every LINE event.
+/// Where LINE is enabled for one tool at the marked locations alone, that tool hears every LINE event of such a thread.
 pub fn heard_by_wants()
     ensures { HeardByWants }
 {}

@@ -10,6 +10,7 @@ pub enum Mode {
     Unwind(Exc),
     /// Not at all.
     Ended(Outcome),
-    /// Not at all, since an operand or a location was missing. No program that was checked comes here.
+    /// Not at all, since an operand or a location was missing, or the opcode is not run so far. No checked program of the
+    /// opcodes that are run comes here.
     Stuck,
 }

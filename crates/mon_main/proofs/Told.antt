@@ -7,9 +7,9 @@ use Rattle.mon_parser.specs.Texts.{Reading, ReadAs, Misspelled, Underived, Parse
 use Rattle.mon_parser.specs.declared.tree.Module.{Module}
 use Rattle.mon_parser.proofs.Texts.{text_read_once}
 use Rattle.mon_main.proofs.Limits.{plan_of-take, read_as-take, read_of}
-use Rattle.mon_main.specs.Answer.{Answer, planned, compiled, sourced, source, program_in, TellsFile, TellsPlan, HasProgram}
+use Rattle.mon_compile.specs.Faults.{compile_fault}
+use Rattle.mon_main.specs.Answer.{Answer, planned, compiled, sourced, source, program_in, program_of, TellsFile, TellsPlan, HasProgram}
 use Rattle.mon_main.specs.Commands.{Replay}
-use Rattle.mon_compile.specs.Sources.{program_of}
 use Rattle.mon_main.specs.Outside.{ReadsAll, ReadCause, Rose}
 use Rattle.mon_main.specs.Plans.{plan_of}
 use Rattle.mon_main.specs.Replies.{answer_of, ReplyCause}
@@ -42,7 +42,7 @@ is_reading (Some text) read reading one h r d = text_read_once text one reading 
 
 -- what a module is answered is what is due to the reading that it is
 pub due_of_module : (m : Module) (reading : Reading) (held told : Option (List ℕ)) (plan : List ℕ) (r : Result Reply StoreFault) → Parsed m ≡ reading → told ≡ held → TellsPlan (program_in reading) held plan
-    → (TellsPlan (program_of m) told plan → IfOk r (λ x. answer_of x ≡ compiled (program_of m) plan)) → IfOk r (λ x. answer_of x ≡ sourced reading plan)
+    → (TellsPlan (program_of m) told plan → IfOk r (λ x. answer_of x ≡ compiled (compile_fault m) (program_of m) plan)) → IfOk r (λ x. answer_of x ≡ sourced reading plan)
 due_of_module m reading held told plan r is same tells run =
     let Q : Reading → Type 0 = λ t. TellsPlan (program_in t) held plan → IfOk r (λ x. answer_of x ≡ sourced t plan) in
     let at_module : Q (Parsed m) = λ k. run (subst (λ (t : Option (List ℕ)). TellsPlan (program_of m) t plan) (sym same) k) in

@@ -1,15 +1,19 @@
 -- The answer to a command: a status, and the text that is written. It knows the words, what FILE is read as and the
 -- contents of PLAN, and no store.
-use Rattle.std.specs.Prelude.{◌≡◌, ℕ, List, Option, Some, None, ◌⊎◌, IsSome, codes}
+use Rattle.std.specs.Prelude.{◌≡◌, ℕ, Bool, true, false, List, Option, Some, None, ◌⊎◌, IsSome, codes}
 use Rattle.mon_code.specs.Programs.{Parts}
 use Rattle.mon_main.specs.Commands.{Replay, replay_of}
 use Rattle.mon_parser.specs.Texts.{Reading, ReadAs, Misspelled, Underived, Parsed}
 use Rattle.mon_parser.specs.declared.tree.Module.{Module}
-use Rattle.mon_compile.specs.Sources.{program_of}
+use Rattle.mon_compile.specs.declared.fault.CompileFault.{CompileFault}
+use Rattle.mon_compile.specs.declared.fault.CompileFault.TheVariants as compile
+use Rattle.mon_compile.specs.Faults.{compile_fault}
+use Rattle.mon_compile.specs.Modules as modules
+use Rattle.mon_compile.specs.Simple.{is_simple}
 use Rattle.mon_main.specs.Outside.{Writes}
 use Rattle.mon_main.specs.Plans.{plan_of}
 use Rattle.mon_main.specs.Serial.{serial_of}
-use Rattle.mon_main.specs.Sources.{misspelled_line, underived_line}
+use Rattle.mon_main.specs.Sources.{misspelled_line, underived_line, uncompiled_line}
 use Rattle.mon_main.specs.Texts.{report_text}
 use Rattle.mon_main.specs.declared.plan.Plan.{Plan}
 use Rattle.mon_main.specs.declared.status.Status.{Status}
@@ -42,14 +46,35 @@ abbrev pub planned : Parts → Option Plan → Answer
 planned p None = not_built
 planned p (Some q) = record { status = Done; text = replayed p q }
 
-abbrev pub compiled : Option Parts → List ℕ → Answer
-compiled None plan = not_built
-compiled (Some p) plan = planned p (plan_of p plan)
+-- the program of a module without a fault, where it is run: simple ones alone are so far
+abbrev pub run_if : Bool → Module → Option Parts
+run_if true m = Some (modules.compiled m)
+run_if false m = None
+
+abbrev pub program_without : Option CompileFault → Module → Option Parts
+program_without None m = run_if (is_simple m) m
+program_without (Some fault) m = None
+
+unfoldable pub program_of : Module → Option Parts
+program_of m = program_without (compile_fault m) m
+
+abbrev pub of_program : Option Parts → List ℕ → Answer
+of_program None plan = not_built
+of_program (Some p) plan = planned p (plan_of p plan)
+
+-- a fault of the module; what is not built is none of the file's
+abbrev pub uncompiled : CompileFault → Answer
+uncompiled (compile.NotBuilt line) = not_built
+uncompiled fault = source (uncompiled_line fault)
+
+abbrev pub compiled : Option CompileFault → Option Parts → List ℕ → Answer
+compiled (Some fault) program plan = uncompiled fault
+compiled None program plan = of_program program plan
 
 abbrev pub sourced : Reading → List ℕ → Answer
 sourced (Misspelled f) plan = source (misspelled_line f)
 sourced (Underived line) plan = source (underived_line line)
-sourced (Parsed m) plan = compiled (program_of m) plan
+sourced (Parsed m) plan = compiled (compile_fault m) (program_of m) plan
 
 abbrev pub commanded : Option Replay → Reading → List ℕ → Answer
 commanded None reading plan = usage
@@ -78,17 +103,17 @@ abbrev pub TellsPlan : Option Parts → Option (List ℕ) → List ℕ → Type 
 TellsPlan None told plan = Unit {0}
 TellsPlan (Some p) told plan = told ≡ Some plan
 
--- contents are told as far as a command needs them: those of FILE, and those of PLAN where FILE has a program
+-- contents are told as far as a command needs them: those of FILE, and those of PLAN where FILE has a program that is run
 abbrev pub Tells : Option Replay → (List ℕ → Option (List ℕ)) → Reading → List ℕ → Type 0
 Tells None holds reading plan = Unit {0}
 Tells (Some r) holds reading plan = TellsFile (holds r.file) reading × TellsPlan (program_in reading) (holds r.plan) plan
 
--- told contents have a program
+-- told contents have a program that is run
 abbrev pub HasProgram : Option (List ℕ) → Type 0
 HasProgram None = Unit {0}
 HasProgram (Some file) = (m : Module) × ReadAs file (Parsed m) × IsSome (program_of m)
 
--- a failed read of a command was that of FILE, or that of PLAN where FILE has a program
+-- a failed read of a command was that of FILE, or that of PLAN where FILE has a program that is run
 abbrev pub FailedRead : Option Replay → (List ℕ → Option (List ℕ)) → Option (List ℕ) → Type 0
 FailedRead None holds failed = ⊥
 FailedRead (Some r) holds failed = (failed ≡ Some r.file) ⊎ ((failed ≡ Some r.plan) × HasProgram (holds r.file))

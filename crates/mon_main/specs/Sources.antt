@@ -1,8 +1,10 @@
--- Why FILE has no module, and the line that says so.
+-- The faults of FILE and of its module, and the lines that name them.
 use Rattle.std.specs.Prelude.{ℕ, List, [], ◌++◌, Option, Some, None, Result, Ok, Err, codes}
 use Rattle.std.specs.Fmt.{decimal}
 use Rattle.mon_lexer.specs.declared.token.LexFault.{LexFault}
 use Rattle.mon_lexer.specs.declared.token.LexFault.TheVariants as lexical
+use Rattle.mon_compile.specs.declared.fault.CompileFault.{CompileFault}
+use Rattle.mon_compile.specs.declared.fault.CompileFault.TheVariants as compile
 use Rattle.mon_parser.specs.Texts.{ReadAs, Misspelled, Underived, Parsed}
 use Rattle.mon_parser.specs.declared.parser.SyntaxFault.{SyntaxFault}
 use Rattle.mon_parser.specs.declared.parser.SyntaxFault.TheVariants as syntax
@@ -22,6 +24,15 @@ misspelled_line lexical.Memory = []
 
 abbrev pub underived_line : ℕ → List ℕ
 underived_line line = codes "source Syntax " ++ decimal line ++ codes "\n"
+
+-- a module's fault; NotBuilt is told in other words, and want of memory has no line
+abbrev pub uncompiled_line : CompileFault → List ℕ
+uncompiled_line (compile.DuplicateName line) = codes "source DuplicateName " ++ decimal line ++ codes "\n"
+uncompiled_line (compile.Misplaced line) = codes "source Misplaced " ++ decimal line ++ codes "\n"
+uncompiled_line (compile.TooLarge line) = codes "source TooLarge " ++ decimal line ++ codes "\n"
+uncompiled_line compile.TooManyLocations = codes "source TooManyLocations\n"
+uncompiled_line (compile.NotBuilt line) = []
+uncompiled_line compile.Memory = []
 
 -- want of memory has no line
 abbrev pub fault_line : SourceFault → Option (List ℕ)

@@ -11,8 +11,8 @@ use crate::store::{Store, StoreFault};
 use std::alloc::Global;
 
 /// Does a command, given as the words behind the program's name, and writes its answer. `replay FILE PLAN` runs the
-/// program of FILE by PLAN on one thread and writes the report; where FILE has a lexical or a syntax fault, PLAN is not
-/// read and the fault is written. Other words are no command.
+/// program of FILE by PLAN on one thread and writes the report. Where FILE has a fault of its own, the fault is written, and
+/// where its module is not one that is run, `not built yet` is; then PLAN is not read. Other words are no command.
 ///
 /// Each text is made whole before it is written, so that a command that finds no memory has written nothing.
 pub fn host_serial<S: Store, K: Sink>(

@@ -24,8 +24,8 @@ pub struct Plan {
 /// Why a text gave no plan.
 #[derive(Clone, Copy, Debug, PartialEq, Eq, Error)]
 pub enum PlanFault {
-    /// It is not of the first form.
-    #[error("the plan is not of the first form")]
+    /// It is no plan of one thread and one tool.
+    #[error("the plan is not one that is run so far")]
     NotBuilt,
     #[error("out of memory")]
     Memory,

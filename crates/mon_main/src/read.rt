@@ -351,7 +351,7 @@ fn plain_text(text: &[u8]) -> Option<&str>
     }
 }
 
-/// The plan that a text is, in the first form.
+/// The plan of one thread and one tool that a text is.
 ///
 /// `NotBuilt` where it is none.
 pub fn read_plan(alloc: Global, program: &Program, text: &[u8]) -> Result<Plan, PlanFault>

@@ -2,9 +2,10 @@ ghost use Rattle.std.specs.Prelude.{◌≡◌, ℕ, List, [], None, Some, IfOk, 
 ghost use Rattle.mon_main.specs.Answer as spec;
 ghost use Rattle.mon_main.specs.Commands.{replay_of, texts};
 ghost use Rattle.mon_parser.specs.Texts.{Reading};
-ghost use Rattle.mon_compile.specs.Sources.{program_of};
+ghost use Rattle.mon_compile.specs.Faults.{compile_fault};
 ghost use Rattle.mon_main.specs.Outside.{ReadCause, ReadsAll};
 ghost use Rattle.mon_main.specs.Plans.{plan_of};
+ghost use Rattle.mon_machine.specs.Laws.{AllRun};
 ghost use Rattle.mon_main.specs.Replies.{answer_of, ReplyCause};
 
 use crate::command::replay_words;
@@ -12,11 +13,11 @@ use crate::plan::PlanFault;
 use crate::read::read_plan;
 use crate::report::print_report;
 use crate::serial::run_serial;
-use crate::source::{module, source_line};
+use crate::source::{module, source_line, uncompiled_line};
 use crate::status::Status;
 use crate::store::{Store, StoreFault};
 use mon_code::Program;
-use mon_compile::{CompileFault, compile};
+use mon_compile::{CompileFault, compile, is_simple};
 use mon_parser::tree::Module;
 use std::alloc::{AllocError, Global};
 
@@ -29,7 +30,7 @@ const NOT_BUILT: &[u8] = b"not built yet\n";
 pub enum Reply {
     /// The words are no command.
     Usage,
-    /// The line that says why FILE has no module.
+    /// The line that names FILE's first fault.
     Source(String),
     /// A file has a form that is not built yet.
     NotBuilt,
@@ -78,7 +79,7 @@ pub fn reply_to<S: Store>(
     }
 }
 
-/// The reply to `replay FILE PLAN`. PLAN is read only where FILE has a program.
+/// The reply to `replay FILE PLAN`. PLAN is read only where FILE has a program that is run.
 fn replay<S: Store>(
     alloc: Global,
     file: &str,
@@ -96,22 +97,29 @@ fn replay<S: Store>(
     }
 }
 
-/// The reply of a module to PLAN, which is read only where the module has a program.
+/// The reply of a module to PLAN, which is read only where the module has a program that is run.
 fn compiled<S: Store>(
     alloc: Global,
     tree: &Module,
     plan: &str,
     store: &mut S,
 ) -> Result<Reply, StoreFault>
-    ensures due { (p : List ℕ) → spec.TellsPlan (program_of tree.now) (S.holds store.old plan.now) p → IfOk result (λ r. answer_of r ≡ spec.compiled (program_of tree.now) p) }
+    ensures due { (p : List ℕ) → spec.TellsPlan (spec.program_of tree.now) (S.holds store.old plan.now) p → IfOk result (λ r. answer_of r ≡ spec.compiled (compile_fault tree.now) (spec.program_of tree.now) p) }
     ensures not_usage { IfOk result (λ r. (answer_of r).status ≡ Status.Usage → ⊥) }
     ensures cause { ReadCause plan.now (S.faults store.old) (S.faults store.new) (S.last_failed store.old) (S.last_failed store.new) result }
-    ensures has_program { IsErrOf result StoreFault.Failed → IsSome (program_of tree.now) }
+    ensures has_program { IsErrOf result StoreFault.Failed → IsSome (spec.program_of tree.now) }
 {
     match compile(alloc, tree) {
-        Ok((program, bases)) => run(alloc, &program, bases.as_slice(), plan, store),
-        Err(CompileFault::NotBuilt) => Ok(Reply::NotBuilt),
+        Ok((program, bases)) => {
+            if is_simple(alloc, tree)? {
+                run(alloc, &program, bases.as_slice(), plan, store)
+            } else {
+                Ok(Reply::NotBuilt)
+            }
+        }
+        Err(CompileFault::NotBuilt(_)) => Ok(Reply::NotBuilt),
         Err(CompileFault::Memory) => Err(StoreFault::Memory),
+        Err(fault) => Ok(Reply::Source(uncompiled_line(alloc, fault)?)),
     }
 }
 
@@ -123,7 +131,8 @@ fn run<S: Store>(
     plan: &str,
     store: &mut S,
 ) -> Result<Reply, StoreFault>
-    requires { bases.now ≡ program.now.bases }
+    requires bases { bases.now ≡ program.now.bases }
+    requires runs { AllRun program.now }
     ensures due { (p : List ℕ) → S.holds store.old plan.now ≡ Some p → IfOk result (λ r. answer_of r ≡ spec.planned program.now (plan_of program.now p)) }
     ensures not_usage { IfOk result (λ r. (answer_of r).status ≡ Status.Usage → ⊥) }
     ensures cause { ReadCause plan.now (S.faults store.old) (S.faults store.new) (S.last_failed store.old) (S.last_failed store.new) result }
@@ -145,7 +154,8 @@ fn contents<S: Store>(alloc: Global, name: &str, store: &mut S) -> Result<Vec<u8
 
 /// The reply of a program to the text of a plan.
 fn planned(alloc: Global, program: &Program, bases: &[u8], text: &[u8]) -> Result<Reply, AllocError>
-    requires { bases.now ≡ program.now.bases }
+    requires bases { bases.now ≡ program.now.bases }
+    requires runs { AllRun program.now }
     ensures due { IfOk result (λ r. answer_of r ≡ spec.planned program.now (plan_of program.now text.now)) }
     ensures not_usage { IfOk result (λ r. (answer_of r).status ≡ Status.Usage → ⊥) }
 {

@@ -1,7 +1,9 @@
-ghost use Rattle.std.specs.Prelude.{◌≡◌, ◌<◌, ◌≤◌, ◌-◌, ◌++◌, length, OnOk, IfOk};
+ghost use Rattle.std.specs.Prelude.{◌≡◌, ◌<◌, ◌≤◌, ◌-◌, ◌++◌, length, map, OnOk, IfOk};
+ghost use Rattle.mon_values.specs.declared.value.Value.{Int};
 ghost use Rattle.mon_code.specs.Checked.{IsChecked};
 ghost use Rattle.mon_words.specs.Standing.{board_of};
 ghost use Rattle.mon_board.specs.Plain.{first_plain};
+ghost use Rattle.mon_machine.specs.Laws.{AllRun};
 ghost use Rattle.mon_machine.specs.Serial.{of_locations};
 ghost use Rattle.mon_main.specs.Plans.{plan_fits};
 ghost use Rattle.mon_main.specs.Serial.{serial_of, line_word, words_of_run};
@@ -11,7 +13,9 @@ use mon_board::PlainBoard;
 use mon_code::{Code, Location, Program};
 use mon_interp::Thread;
 use mon_recorders::ThreadReport;
+use mon_values::value::Value;
 use mon_words::{Handle, Parts, normal, pack};
+use sqlite_items::Items;
 use std::alloc::{AllocError, Global};
 
 // The words of a board before those of the locations: the global word and six callback words.
@@ -86,6 +90,17 @@ fn first_board(
     Ok(board)
 }
 
+// The integers as values.
+fn values(alloc: Global, args: &[i64]) -> Result<Items<Value>, AllocError>
+    ensures { IfOk result (λ values. values ≡ map Int args.now) }
+{
+    let mut values = Items::new(alloc);
+    for arg in args {
+        values.push(Value::Int(*arg))?;
+    }
+    Ok(values)
+}
+
 /// Runs the plan's thread over words of its own, and reports it.
 pub fn run_serial(
     alloc: Global,
@@ -93,6 +108,7 @@ pub fn run_serial(
     bases: &[u8],
     plan: &Plan,
 ) -> Result<ThreadReport, AllocError>
+    requires runs { AllRun program.now }
     requires fits { plan_fits program.now plan.now }
     requires bases { bases.now ≡ program.now.bases }
     ensures { IfOk result (λ r. (r.records ≡ (serial_of program.now plan.now).records) × (r.steps ≡ (serial_of program.now plan.now).steps) × (r.outcome ≡ (serial_of program.now plan.now).outcome)) }
@@ -101,7 +117,8 @@ pub fn run_serial(
         unreachable!()
     };
     let mut board = first_board(alloc, program, bases, plan.tool)?;
-    let mut thread = Thread::begin(alloc, code, plan.code, plan.args.as_slice())?;
+    let args = values(alloc, plan.args.as_slice())?;
+    let mut thread = Thread::begin(alloc, code, plan.code, args.as_slice())?;
     let mut handle = board.handle(0);
     let Ok(()) = handle.try_enter() else {
         unreachable!()

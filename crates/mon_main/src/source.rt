@@ -2,6 +2,7 @@ ghost use Rattle.std.specs.Prelude.{◌≡◌, IfOk, Some, string_bytes};
 ghost use Rattle.mon_main.specs.Sources.{fault_line, of_lexer, of_parser, ModuleOf};
 ghost use Rattle.mon_main.specs.Sources as spec;
 
+use mon_compile::CompileFault;
 use mon_lexer::{LexFault, items};
 use mon_parser::tree::Module;
 use mon_parser::{SyntaxFault, parse};
@@ -59,6 +60,19 @@ pub fn source_line(alloc: Global, fault: SourceFault) -> Result<String, AllocErr
         SourceFault::Misspelled(fault) => misspelled_line(alloc, fault),
         SourceFault::Underived(line) => format!(in alloc; "source Syntax {line}\n"),
         SourceFault::Memory => Err(AllocError),
+    }
+}
+
+/// The line that says why a module has no program. `NotBuilt` and `Memory` have none.
+pub fn uncompiled_line(alloc: Global, fault: CompileFault) -> Result<String, AllocError>
+    ensures { IfOk result (λ line. string_bytes line ≡ spec.uncompiled_line fault) }
+{
+    match fault {
+        CompileFault::DuplicateName(line) => format!(in alloc; "source DuplicateName {line}\n"),
+        CompileFault::Misplaced(line) => format!(in alloc; "source Misplaced {line}\n"),
+        CompileFault::TooLarge(line) => format!(in alloc; "source TooLarge {line}\n"),
+        CompileFault::TooManyLocations => String::from_str(alloc, "source TooManyLocations\n"),
+        CompileFault::NotBuilt(_) | CompileFault::Memory => Err(AllocError),
     }
 }
 

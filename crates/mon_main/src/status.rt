@@ -8,7 +8,7 @@ pub enum Status {
     Done = 0,
     /// The words are no command.
     Usage = 2,
-    /// FILE has a lexical or a syntax fault.
+    /// FILE has a fault of its own: of its text, of its syntax, or of its module.
     Source = 3,
     /// The store refused to read a file.
     ReadFault = 5,

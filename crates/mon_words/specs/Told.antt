@@ -6,6 +6,7 @@ use Rattle.mon_words.specs.declared.handle.WorldStopped.{WorldStopped}
 use Rattle.mon_words.specs.declared.history.Board.{Board}
 use Rattle.mon_words.specs.declared.history.Mark.{Mark}
 use Rattle.mon_words.specs.declared.history.Mark.TheVariants.{Off}
+use Rattle.mon_words.specs.declared.history.Retirement.{Retirement}
 
 pub record Told : Type 0 where
   -- the thread's number
@@ -22,6 +23,8 @@ pub record Told : Type 0 where
   -- how many polls were made, and how many of them answered true
   pub polls : ℕ
   pub polled : ℕ
+  -- the tries to retire a word, in order
+  pub retirements : List Retirement
 
 -- a load of a location gave a word: more may have been seen, in which nothing was added but disables of others; the
 -- word is lawful there, and nothing else has changed
@@ -57,10 +60,14 @@ pub record Clears (a : Told) (location k word : ℕ) (b : Told) : Type 0 where
 abbrev pub Disables : Told → ℕ → ℕ → ℕ → Told → Type 0
 Disables a location mask word b = (k : ℕ) → k < 24 → mask ≡ mask_of k → Clears a location k word b
 
--- a word was found, which is lawful as a load's is; the answer is whether it is the old one
+abbrev pub tried : Told → ℕ → ℕ → Bool → Told
+tried a location old done = record a { retirements = a.retirements ++ record { location = location; old = old; done = done } ∷ [] }
+
+-- one try to retire: a word was found, which is lawful as a load's is; it gave way exactly where it is the old one, which is
+-- the answer
 pub record Retires (a : Told) (location old : ℕ) (answer : Bool) (b : Told) : Type 0 where
   pub found : ℕ
-  pub loads : Loads a location found b
+  pub loads : Loads (tried a location old answer) location found b
   pub answer_is : answer ≡ (found == old)
 
 -- a load of the global word, as one of a location

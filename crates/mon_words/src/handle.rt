@@ -11,7 +11,7 @@ pub trait Handle {
     type Rest;
 
     /// The thread's number, the first board, the history as this thread has seen it, its own disables, whether it is
-    /// attached, its stored count, and its polls.
+    /// attached, its stored count, its polls, and its tries to retire a word.
     ghost told: { Self → Told };
 
     ghost rest: { Self → Self.Rest };
@@ -33,8 +33,8 @@ pub trait Handle {
         ensures rest { rest self.new ≡ rest self.old }
         ensures told { Disables (told self.old) location mask result (told self.new) };
 
-    /// Gives the location the least instrumented opcode that the old word's bits allow, unless another word than the
-    /// old one is found there: then it answers false and leaves the word.
+    /// One try to give the location the least instrumented opcode that the old word's bits allow. Where another word than
+    /// the old one is found there, it answers false and leaves the word.
     fn retire(&mut self, location: u32, old: u64) -> bool
         requires attached { IsTrue (told self.old).attached }
         requires within { location < length (told self.old).first.cells }

@@ -9,7 +9,7 @@ mod word;
 
 pub use halted::Halted;
 pub use handle::{Handle, WorldStopped};
-pub use history::{Board, Cell, Mark, Noted, Written};
+pub use history::{Board, Cell, Mark, Noted, Retirement, Written};
 pub use word::{Parts, bit_places, enabled, form_in_place, normal, pack, unpack};
 
 #[cfg(test)]

@@ -67,6 +67,57 @@ fn a_syntax_fault_is_said(rt: HostRuntime) -> Result<(), Fail> {
 }
 
 #[test]
+fn a_fault_of_a_module_is_said(rt: HostRuntime) -> Result<(), Fail> {
+    let alloc = rt.alloc();
+    let rows: [(&[u8], &str); 8] = [
+        (
+            b"def f():\n    pass\ndef f():\n    pass\n",
+            "source DuplicateName 3\n",
+        ),
+        (b"x = 1\ny = 2\nx = 3\n", "source DuplicateName 3\n"),
+        (b"def f(a, a):\n    return a\n", "source DuplicateName 1\n"),
+        (b"def f():\n    break\n", "source Misplaced 2\n"),
+        (
+            b"def f(n):\n    if n:\n        continue\n",
+            "source Misplaced 3\n",
+        ),
+        (
+            b"def f():\n    break\n\ndef f():\n    pass\n",
+            "source DuplicateName 4\n",
+        ),
+        (
+            b"def f():\n    yield 1\n    break\n",
+            "source Misplaced 3\n",
+        ),
+        (
+            b"x = (((((((((((((((((((((((((((((((((((((((((((((((((((((((((((((((((1,),),),),),),),),),),),),),),),),),),),),),),),),),),),),),),),),),),),),),),),),),),),),),),),),),),),),),),),),),),),),),),),),)\n",
+            "source TooLarge 1\n",
+        ),
+    ];
+    for (bytes, line) in rows {
+        assert!(rt; has_fault(alloc, bytes, line)?, "of {bytes:?}");
+    }
+    Ok(())
+}
+
+#[test]
+fn a_module_that_is_not_simple_is_not_built(rt: HostRuntime) -> Result<(), Fail> {
+    let alloc = rt.alloc();
+    let rows: [&str; 6] = [
+        "def f(n):\n    yield n\n",
+        "def f(n):\n    try:\n        pass\n    finally:\n        pass\n",
+        "def f(n):\n    if n:\n        return n\n",
+        "def f(n):\n    return g\n",
+        "x = 1\ndef f(n):\n    return n\n",
+        "def f(n):\n    n += 1\n    return n\n",
+    ];
+    for program in rows {
+        assert!(rt; is_not_built(alloc, program, LOOP_PLAN)?, "of {program:?}");
+    }
+    Ok(())
+}
+
+#[test]
 fn a_text_has_at_most_262144_bytes(rt: HostRuntime) -> Result<(), Fail> {
     let alloc = rt.alloc();
     for length in [262_145, 262_146, 300_000] {

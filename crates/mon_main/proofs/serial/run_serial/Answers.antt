@@ -1,7 +1,7 @@
 use Rattle.std.proofs.Common.{◌≡◌, ◌+◌, ◌<◌, ◌⊎◌, ℕ, ℤ, List, [], length, map, false, refl, ap, sym, ◌∙◌, subst, arith}
 use Rattle.std.specs.Prelude.{Ok, Some, slice_get, slice_index}
 use Rattle.std.proofs.lemmas.List.{length-map}
-use Rattle.mon_values.specs.declared.value.Value.{Int}
+use Rattle.mon_values.specs.declared.value.Value.{Value, Int}
 use Rattle.mon_code.specs.declared.program.Code.{Code}
 use Rattle.mon_code.specs.Programs.{Parts}
 use Rattle.mon_machine.specs.Step.{start, goes}
@@ -25,13 +25,18 @@ use Rattle.mon_main.specs.Serial.{Serial, words_of_run}
 use Rattle.mon_main.proofs.Serials.{serial_ran, serial_found, stops, fits_parameters, first_words-want, first_words-bases, no_marks}
 use Rattle.mon_main.proofs.serial.run_serial.Goals as goal
 
+-- the arguments as values
+arguments_of : (given made : List Value) (args plan : List ℤ) → given ≡ made → made ≡ map Int args → args ≡ plan → given ≡ map Int plan
+arguments_of given made args plan g m a = g ∙ m ∙ ap (map Int) a
+
 pub begin-requires : goal.begin-requires
 begin-requires c =
     let p : Parts = c.args.program.now in
     let found : slice_get p.codes c.args.plan.now.code ≡ Some c.in-Some.code.now = sym c.in-Some.ensures.value in
     let code = checked_code p c.args.plan.now.code c.in-Some.code.now c.first_board.ensures.checked found in
     let count : length c.args.plan.now.args ≡ c.in-Some.code.now.parameters = fits_parameters (slice_get p.codes c.args.plan.now.code) c.in-Some.code.now (length c.args.plan.now.args) found c.requires.fits.args in
-    let long : length c.as_slice.result.now ≡ length c.args.plan.now.args = ap (λ (l : List ℤ). length l) c.as_slice.ensures in
+    let given : c.as_slice-2.result.now ≡ map Int c.args.plan.now.args = arguments_of _ _ _ _ c.as_slice-2.ensures c.in_ok-args.ensures c.as_slice.ensures in
+    let long : length c.as_slice-2.result.now ≡ length c.args.plan.now.args = ap (λ (l : List Value). length l) given ∙ length-map c.args.plan.now.args Int in
     omega (arith, code.parameters, count, long)
 
 -- the handle's board is the one that the run begins with
@@ -61,11 +66,12 @@ returns-in-Ok-advance c =
     let small : (n : ℕ) → slice_index p.bases n < 256 = λ n. subst (λ (b : List ℕ). slice_index b n < 256) c.requires.bases (omega (arith, c.type_inv.bases n)) in
     let found : slice_get p.codes plan.code ≡ Some code = sym c.in-Some.ensures.value in
     let count : length plan.args ≡ code.parameters = fits_parameters (slice_get p.codes plan.code) code (length plan.args) found c.requires.fits.args in
-    let call : IsCall p plan.code code (map Int plan.args) = record { checked = c.first_board.ensures.checked; found = found; count = length-map plan.args Int ∙ count } in
+    let call : IsCall p plan.code code (map Int plan.args) = record { checked = c.first_board.ensures.checked; runs = c.requires.runs; found = found; count = length-map plan.args Int ∙ count } in
     let old : Progress = c.in_ok-thread.thread.progress in
     let new : Progress = c.advance.new.self.progress in
     let begins : old ≡ record { state = start code plan.code (map Int plan.args); records = []; steps = 0 }
-    = ap (λ (t : ThreadView). t.progress) c.in_ok-thread.ensures ∙ ap (λ (l : List ℤ). let x : Progress = record { state = start code plan.code (map Int l); records = []; steps = 0 } in x) c.as_slice.ensures in
+    = ap (λ (t : ThreadView). t.progress) c.in_ok-thread.ensures
+    ∙ ap (λ (l : List Value). let x : Progress = record { state = start code plan.code l; records = []; steps = 0 } in x) (arguments_of _ _ _ _ c.as_slice-2.ensures c.in_ok-args.ensures c.as_slice.ensures) in
     let ends : (goes new.state.mode ≡ false) ⊎ (new.steps ≡ old.steps + plan.steps)
     = stops c.in-Ok-advance.field-0 (λ e. (c.in-Ok-advance.ensures.spent (ap (λ (s : Stop). Ok s) e)).1) (λ e. c.in-Ok-advance.ensures.ended (ap (λ (s : Stop). Ok s) e)) in
     let t : ℕ = c.try_enter.new.self.thread in

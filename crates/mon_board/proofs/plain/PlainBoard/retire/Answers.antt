@@ -1,4 +1,7 @@
-use Rattle.std.proofs.Common.{rules, arith, refl}
+use Rattle.std.proofs.Common.{rules, arith, refl, subst, ◌≡◌, ◌+◌, ◌-◌, ℕ}
+use Rattle.mon_words.specs.Words.{Shows}
+use Rattle.mon_words.specs.History.{cell_at}
+use Rattle.mon_board.specs.Plain.{standing}
 use Rattle.mon_board.proofs.Steps.{retires}
 use Rattle.mon_board.proofs.plain.PlainBoard.retire.Goals as goal
 
@@ -6,4 +9,7 @@ pub compare_exchange-found-requires : goal.compare_exchange-found-requires
 compare_exchange-found-requires c = (search rules, search rules, retires _ _ _ c.args.location _ _ _ _ (omega arith) (omega arith) c.requires.running.0 c.normal-new.ensures)
 
 pub returns-clause-answer : goal.returns-clause-answer
-returns-clause-answer c = (c.compare_exchange-found.result, refl, c.compare_exchange-found.ensures.2.0.location c.args.location (omega arith))
+returns-clause-answer c =
+    let v = c.args.self.now.chair.me.0 in let n : ℕ = c.compare_exchange-found.result in
+    let l : c.args.self.now.threads + 7 + c.args.location - v.threads - 7 ≡ c.args.location = omega arith in
+    (n, refl, subst (λ (z : ℕ). Shows (cell_at (standing v) z) n) l (c.compare_exchange-found.ensures.2 c.normal-new.ensures).0)

@@ -23,7 +23,7 @@ loud : (c : Cell) (n m : ℕ) → m ≡ n - n % 256 + 128 → Allowed c (m % 256
 loud c n m e = (3, lit≤ tt, at_most_three (ltb 0 (enabled_in c 0)) (ltb 0 (enabled_in c 1)) (ltb 0 (enabled_in c 2)), (parts n m e).3)
 
 abbrev told_of : List ℕ → Bool → Told
-told_of words attached = record { number = 0; first = record { global = 0; callbacks = []; cells = map cell_of words }; seen = []; own = []; attached = attached; count = 0; polls = 0; polled = 0 }
+told_of words attached = record { number = 0; first = record { global = 0; callbacks = []; cells = map cell_of words }; seen = []; own = []; attached = attached; count = 0; polls = 0; polled = 0; retirements = [] }
 
 loads : (words : List ℕ) (attached : Bool) (l n m : ℕ) → l < length words → n ≡ get_or words l n → m ≡ n - n % 256 + 128 → Loads (told_of words attached) l m (told_of words attached)
 loads words attached l n m within is made =

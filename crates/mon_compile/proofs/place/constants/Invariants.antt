@@ -1,6 +1,0 @@
-use Rattle.std.proofs.Common.{◌≡◌, ◌++◌, drop}
-use Rattle.mon_compile.specs.Compiled as spec
-use Rattle.mon_compile.proofs.place.constants.Given as goal
-
-abbrev pub invariant-loop-instruction : goal.invariant-loop-instruction
-invariant-loop-instruction l = l.constants ++ spec.constants_of (drop l.instruction-index l.code) ≡ spec.constants_of l.code

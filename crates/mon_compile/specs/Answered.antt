@@ -1,0 +1,32 @@
+-- What a compilation answers.
+use Rattle.std.specs.Prelude.{◌≡◌, ℕ, ◌+◌, ◌<◌, ◌≤◌, List, [], ◌∷◌, length, Some, None, Result, Ok, Err, Vec}
+use Rattle.std.specs.declared.alloc.Global.{Global}
+use Rattle.mon_code.specs.Programs.{Parts}
+use Rattle.mon_code.specs.declared.program.Code.{Code}
+use Rattle.mon_parser.specs.declared.tree.Function.{Function}
+use Rattle.mon_parser.specs.declared.tree.Module.{Module}
+use Rattle.mon_compile.specs.declared.fault.CompileFault.{CompileFault}
+use Rattle.mon_compile.specs.declared.fault.CompileFault.TheVariants.{TooManyLocations, Memory}
+use Rattle.mon_compile.specs.declared.program.Listing.{Listing}
+use Rattle.mon_compile.specs.Faults.{compile_fault, most_locations}
+use Rattle.mon_compile.specs.Functions.{function_code}
+use Rattle.mon_compile.specs.Marking.{code_of}
+use Rattle.mon_compile.specs.Modules.{bases_of, compiled}
+
+-- the codes of functions, each with the marks of its own jumps and handlers
+abbrev pub own_codes : ℕ → List Function → List Code
+own_codes first [] = []
+own_codes first (f ∷ fs) = code_of first f ∷ own_codes (first + length (function_code f)) fs
+
+-- the codes and base opcodes of functions, or that these are too many
+abbrev pub ListsCodes : Result Listing CompileFault → List Function → Type 0
+ListsCodes (Ok l) fs = (l.codes ≡ own_codes 0 fs) × ((l.bases.items ≡ bases_of fs) × (length (bases_of fs) ≤ most_locations))
+ListsCodes (Err Memory) fs = Unit {0}
+ListsCodes (Err TooManyLocations) fs = most_locations < length (bases_of fs)
+ListsCodes (Err _) fs = ⊥
+
+-- the program of a module with its base opcodes, or the fault that it has; memory may be wanting beside anything
+abbrev pub AnswersCompiled : Result (Parts × Vec ℕ Global) CompileFault → Module → Type 0
+AnswersCompiled (Ok r) m = (compile_fault m ≡ None) × ((r.0 ≡ compiled m) × (r.1.items ≡ (compiled m).bases))
+AnswersCompiled (Err Memory) m = Unit {0}
+AnswersCompiled (Err fault) m = compile_fault m ≡ Some fault

@@ -1,0 +1,66 @@
+//! Instructions whose destinations may still be open.
+
+use mon_events::Op;
+use mon_lexer::Text;
+use mon_values::value::Value;
+
+/// Where a jump or a handler goes: to an index, or, while that is not known, to the end or the handler of the statement
+/// that opened the entry of the context inside so many others.
+#[derive(Clone, Copy, Debug, PartialEq, Eq)]
+pub enum Label {
+    /// An index.
+    At(usize),
+    /// The end of the statement whose entry stands inside so many others.
+    EndOf(usize),
+    /// The handler of the statement whose entry stands inside so many others.
+    HandlerOf(usize),
+}
+
+/// What an opcode is given.
+#[derive(Debug, Drop)]
+pub enum Argument {
+    /// A count, an operator or the number of a local; 0 where the opcode takes none.
+    Number(usize),
+    /// A constant.
+    Constant(Value),
+    /// The name of a global.
+    Name(Text),
+    /// Where a jump goes.
+    Destination(Label),
+}
+
+/// Where an exception goes, and how many values and exceptions are left then below it.
+#[derive(Clone, Copy, Debug, PartialEq, Eq)]
+pub struct Handler {
+    /// Where the exception goes.
+    pub to: Label,
+    /// How many values are left on the operand stack.
+    pub stack: usize,
+    /// How many exceptions are left on the handling list.
+    pub handling: usize,
+}
+
+/// Where an instruction stands: its line, its handler, and the depths of the operand stack and the handling list before
+/// it.
+#[derive(Clone, Copy, Debug, PartialEq, Eq)]
+pub struct Spot {
+    /// The line, if it has one.
+    pub line: Option<u32>,
+    /// The handler, if there is one.
+    pub handler: Option<Handler>,
+    /// How many values are on the operand stack.
+    pub stack: usize,
+    /// How many exceptions are on the handling list.
+    pub handling: usize,
+}
+
+/// An opcode with its argument, at its spot.
+#[derive(Debug, Drop)]
+pub struct Instruction {
+    /// The opcode.
+    pub op: Op,
+    /// What it is given.
+    pub argument: Argument,
+    /// Where it stands.
+    pub spot: Spot,
+}

@@ -1,0 +1,38 @@
+//! Why a module has no program.
+
+ghost use Rattle.std.specs.Prelude.{◌≡◌};
+ghost use Rattle.mon_compile.specs.declared.fault.CompileFault.TheVariants.{Memory};
+
+use std::alloc::AllocError;
+use thiserror::Error;
+
+/// Why a module has no program; a line counts from 1.
+#[derive(Clone, Copy, Debug, Drop, PartialEq, Eq, Error)]
+pub enum CompileFault {
+    /// The item on this line binds a name that an earlier one binds, or is a `def` with two equal parameters.
+    #[error("DuplicateName {0}")]
+    DuplicateName(u32),
+    /// A `break` or `continue` outside a loop, or a `def` with over 255 locals.
+    #[error("Misplaced {0}")]
+    Misplaced(u32),
+    /// A constant over the limits of weight and depth.
+    #[error("TooLarge {0}")]
+    TooLarge(u32),
+    /// A `yield` or a `finally`, which are not built yet.
+    #[error("NotBuilt {0}")]
+    NotBuilt(u32),
+    /// The program would have over 65,536 locations.
+    #[error("TooManyLocations")]
+    TooManyLocations,
+    /// Memory ran out.
+    #[error("Memory")]
+    Memory,
+}
+
+impl From<AllocError> for CompileFault {
+    ghost from_gives = { λ _ e. e ≡ Memory };
+
+    fn from(_: AllocError) -> CompileFault {
+        CompileFault::Memory
+    }
+}

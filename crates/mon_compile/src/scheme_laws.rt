@@ -1,0 +1,25 @@
+//! Laws of the compile scheme, for every tree.
+
+ghost use Rattle.mon_compile.specs.SchemeLaws.{FitsDepths, HasLabelsOfContext, ProgramsAreChecked};
+ghost use Rattle.mon_compile.specs.Simple.{SimpleOpcodes};
+
+/// The code of a block has the labels of its context and no others, and its length depends on none of them.
+pub fn code_has_labels_of_context()
+    ensures { HasLabelsOfContext }
+{}
+
+/// At each index of a function's code the operand stack and the handling list are as deep as recorded, and each jump and
+/// handler lands on a recorded index other than 0.
+pub fn function_code_fits_depths()
+    ensures { FitsDepths }
+{}
+
+/// The program of a module without a fault meets the invariant of programs.
+pub fn compiled_programs_are_checked()
+    ensures { ProgramsAreChecked }
+{}
+
+/// The program of a simple module without a fault has the opcodes of such modules alone.
+pub fn simple_programs_have_simple_opcodes()
+    ensures { SimpleOpcodes }
+{}
