@@ -17,6 +17,8 @@ pub mod Programs
 pub mod Settled
 pub mod Nodes
 pub mod ExpressionHoles
+pub mod Emissions
+pub mod Turns
 pub mod StatementHoles
 pub mod Clauses
 pub mod Loops

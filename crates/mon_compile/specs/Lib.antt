@@ -17,3 +17,4 @@ pub mod Earlier
 pub mod BoundNames
 pub mod Marking
 pub mod Answered
+pub mod Emission

@@ -1,67 +1,246 @@
 //! The code of expressions.
 
-ghost use Rattle.std.specs.Prelude.{◌≡◌, [], ◌∷◌, ◌++◌, length, map, IfOk, OnOk};
+ghost use Rattle.std.specs.Prelude.{◌≡◌, [], ◌∷◌, ◌++◌, length, map, OnOk};
 ghost use Rattle.mon_events.specs.declared.op.Op.{Op};
-ghost use Rattle.mon_compile.specs.declared.assembly.Argument.TheVariants.{Number, Destination};
-ghost use Rattle.mon_compile.specs.declared.assembly.Label.TheVariants.{At};
+ghost use Rattle.mon_compile.specs.declared.assembly.Argument.TheVariants.{Number};
 ghost use Rattle.mon_compile.specs.Contexts as spec;
+ghost use Rattle.mon_compile.specs.Emission.{emitted, one};
 ghost use Rattle.mon_compile.specs.Expressions as scheme;
 
-use crate::assembly::{Argument, Instruction, Label, Spot};
-use crate::codes::text;
-use crate::scope::{copy, is_local, number_of_local};
-use crate::surroundings::above;
+use crate::assembly::Spot;
+use crate::emitter::Emitter;
 use mon_code::{arith_number, cmp_number};
 use mon_events::Op;
-use mon_lexer::Text;
 use mon_parser::tree::{BinaryOperator, Comparison, Expression, Method, Single};
 use mon_values::operator::{ArithOp, CmpOp};
 use mon_values::value::Value;
-use sqlite_items::Items;
-use std::alloc::{AllocError, Global};
+use std::alloc::AllocError;
 
-/// One more instruction.
-pub fn put(
-    code: &mut Vec<Instruction>,
-    spot: Spot,
-    op: Op,
-    argument: Argument,
-) -> Result<(), AllocError>
-    ensures { OnOk result (code.new.items ≡ code.old.items ++ (spec.put spot op argument ∷ [])) }
-{
-    code.push(Instruction { op, argument, spot })?;
-    Ok(())
-}
+impl Emitter<'_> {
+    /// The code of an expression, which pushes one value.
+    #[cycle(expression)]
+    pub fn expression(&mut self, spot: Spot, expression: &Expression) -> Result<(), AllocError>
+        ensures { OnOk result (self.new ≡ emitted self.old (scheme.expression_code self.old.locals expression.now spot)) }
+    {
+        match expression {
+            Expression::Name(name) => self.put_name(spot, name),
+            Expression::Integer(n) => self.put_constant(spot, Value::Int(*n)),
+            Expression::Text(characters) => self.put_text(spot, characters),
+            Expression::Single(single) => self.put_constant(spot, single_value(*single)),
+            Expression::Empty => self.put_empty(spot),
+            Expression::Tuple(parts) => self.tuple(spot, parts.as_slice()),
+            Expression::Yield(_, None) => self.yield_none(spot),
+            Expression::Yield(_, Some(value)) => self.yield_value(spot, value.get()),
+            Expression::If(a, test, b) => self.conditional(spot, a.get(), test.get(), b.get()),
+            Expression::Or(a, b) => self.short(spot, a.get(), Op::PopJumpIfTrue, b.get()),
+            Expression::And(a, b) => self.short(spot, a.get(), Op::PopJumpIfFalse, b.get()),
+            Expression::Not(a) => self.unary(spot, Op::UnaryNot, a.get()),
+            Expression::Compare(op, a, b) => self.comparison(spot, *op, a.get(), b.get()),
+            Expression::Is(a, single) => self.identity(spot, a.get(), 0, *single),
+            Expression::IsNot(a, single) => self.identity(spot, a.get(), 1, *single),
+            Expression::Binary(op, a, b) => {
+                self.binary(spot, Op::BinaryOp, binary_number(*op), a.get(), b.get())
+            }
+            Expression::Negative(a) => self.unary(spot, Op::UnaryNegative, a.get()),
+            Expression::Call(f, args) => self.call(spot, f.get(), args.as_slice()),
+            Expression::Method(object, method, args) => {
+                self.method_call(spot, object.get(), *method, args.as_slice())
+            }
+            Expression::Subscript(a, i) => {
+                self.binary(spot, Op::BinarySubscr, 0, a.get(), i.get())
+            }
+        }
+    }
 
-/// One more instruction without an argument.
-pub fn put_plain(code: &mut Vec<Instruction>, spot: Spot, op: Op) -> Result<(), AllocError>
-    ensures { OnOk result (code.new.items ≡ code.old.items ++ (spec.put spot op spec.none ∷ [])) }
-{
-    put(code, spot, op, Argument::Number(0))
-}
+    // LOAD_CONST None; YIELD_VALUE; RESUME 1 (-)
+    fn yield_none(&mut self, spot: Spot) -> Result<(), AllocError>
+        ensures { OnOk result (self.new ≡ emitted self.old (scheme.yield_code (scheme.or_none None) spot)) }
+    {
+        self.put_constant(spot, Value::None)?;
+        self.put_yield(spot)
+    }
 
-/// `LOAD_CONST`.
-pub fn put_constant(code: &mut Vec<Instruction>, spot: Spot, value: Value) -> Result<(), AllocError>
-    ensures { OnOk result (code.new.items ≡ code.old.items ++ scheme.constant_code value spot (length code.old.items)) }
-{
-    put(code, spot, Op::LoadConst, Argument::Constant(value))
-}
+    // E(value); YIELD_VALUE; RESUME 1 (-)
+    #[cycle(expression)]
+    fn yield_value(&mut self, spot: Spot, value: &Expression) -> Result<(), AllocError>
+        ensures { OnOk result (self.new ≡ emitted self.old (scheme.yield_code (scheme.expression_code self.old.locals value.now) spot)) }
+    {
+        self.expression(spot, value)?;
+        self.put_yield(spot)
+    }
 
-fn put_name(
-    alloc: Global,
-    code: &mut Vec<Instruction>,
-    locals: &[Text],
-    spot: Spot,
-    name: &Text,
-) -> Result<(), AllocError>
-    ensures { OnOk result (code.new.items ≡ code.old.items ++ scheme.name_code locals.now name.now spot (length code.old.items)) }
-{
-    if is_local(locals, name) {
-        let number = number_of_local(locals, name);
-        put(code, spot, Op::LoadFast, Argument::Number(number))
-    } else {
-        let name = copy(alloc, name)?;
-        put(code, spot, Op::LoadGlobal, Argument::Name(name))
+    // YIELD_VALUE; RESUME 1 (-), above a value.
+    fn put_yield(&mut self, spot: Spot) -> Result<(), AllocError>
+        ensures { OnOk result (self.new ≡ emitted self.old (λ at. spec.put (spec.above 1 spot) Op.YieldValue spec.none ∷ (spec.put (spec.above 1 (spec.bare spot)) Op.Resume (Number 1) ∷ []))) }
+    {
+        let up = spot.above(1)?;
+        self.put_plain(up, Op::YieldValue)?;
+        self.put_number(up.bare(), Op::Resume, 1)
+    }
+
+    // An operand, and then an operator.
+    #[cycle(expression)]
+    fn unary(&mut self, spot: Spot, op: Op, a: &Expression) -> Result<(), AllocError>
+        ensures { OnOk result (self.new ≡ emitted self.old (scheme.one_code (scheme.expression_code self.old.locals a.now) op spot)) }
+    {
+        self.expression(spot, a)?;
+        self.put_plain(spot.above(1)?, op)
+    }
+
+    // Two operands, and then an operator with a number.
+    #[cycle(expression)]
+    fn binary(
+        &mut self,
+        spot: Spot,
+        op: Op,
+        number: usize,
+        a: &Expression,
+        b: &Expression,
+    ) -> Result<(), AllocError>
+        ensures { OnOk result (self.new ≡ emitted self.old (scheme.two_code (scheme.expression_code self.old.locals a.now) (scheme.expression_code self.old.locals b.now) op number spot)) }
+    {
+        self.expression(spot, a)?;
+        self.expression(spot.above(1)?, b)?;
+        self.put_number(spot.above(2)?, op, number)
+    }
+
+    // Two operands, and then COMPARE_OP or CONTAINS_OP.
+    #[cycle(expression)]
+    fn comparison(
+        &mut self,
+        spot: Spot,
+        op: Comparison,
+        a: &Expression,
+        b: &Expression,
+    ) -> Result<(), AllocError>
+        ensures { OnOk result (self.new ≡ emitted self.old (scheme.two_code (scheme.expression_code self.old.locals a.now) (scheme.expression_code self.old.locals b.now) (scheme.comparison_op op) (scheme.comparison_number op) spot)) }
+    {
+        self.binary(spot, comparison_op(op), comparison_number(op), a, b)
+    }
+
+    // An operand, and then IS_OP with a single.
+    #[cycle(expression)]
+    fn identity(
+        &mut self,
+        spot: Spot,
+        a: &Expression,
+        number: usize,
+        single: Single,
+    ) -> Result<(), AllocError>
+        ensures { OnOk result (self.new ≡ emitted self.old (scheme.two_code (scheme.expression_code self.old.locals a.now) (scheme.constant_code (scheme.single_value single)) Op.IsOp number spot)) }
+    {
+        self.expression(spot, a)?;
+        self.put_constant(spot.above(1)?, single_value(single))?;
+        self.put_number(spot.above(2)?, Op::IsOp, number)
+    }
+
+    // Expressions one after another, each above the values of those before.
+    #[cycle(expression)]
+    fn expressions(&mut self, spot: Spot, expressions: &[Expression]) -> Result<(), AllocError>
+        ensures { OnOk result (self.new ≡ emitted self.old (scheme.in_turn (map (scheme.expression_code self.old.locals) expressions.now) spot)) }
+    {
+        let mut up = spot;
+        for expression in expressions {
+            self.expression(up, expression)?;
+            up = up.above(1)?;
+        }
+        Ok(())
+    }
+
+    // E of each; BUILD_TUPLE n
+    #[cycle(expression)]
+    fn tuple(&mut self, spot: Spot, parts: &[Expression]) -> Result<(), AllocError>
+        ensures { OnOk result (self.new ≡ emitted self.old (scheme.tuple_code (map (scheme.expression_code self.old.locals) parts.now) spot)) }
+    {
+        self.expressions(spot, parts)?;
+        self.put_number(spot.above(parts.len())?, Op::BuildTuple, parts.len())
+    }
+
+    // E(f); E of each; CALL n
+    #[cycle(expression)]
+    fn call(&mut self, spot: Spot, f: &Expression, args: &[Expression]) -> Result<(), AllocError>
+        ensures { OnOk result (self.new ≡ emitted self.old (scheme.call_code (scheme.expression_code self.old.locals f.now) (map (scheme.expression_code self.old.locals) args.now) spot)) }
+    {
+        self.expression(spot, f)?;
+        let up = spot.above(1)?;
+        self.arguments(up, args, args.len())
+    }
+
+    // E(object); LOAD_METHOD m; E of each; CALL n+1
+    #[cycle(expression)]
+    fn method_call(
+        &mut self,
+        spot: Spot,
+        object: &Expression,
+        method: Method,
+        args: &[Expression],
+    ) -> Result<(), AllocError>
+        ensures { OnOk result (self.new ≡ emitted self.old (scheme.method_code (scheme.expression_code self.old.locals object.now) (scheme.method_number method) (map (scheme.expression_code self.old.locals) args.now) spot)) }
+    {
+        self.expression(spot, object)?;
+        let up = spot.above(1)?;
+        self.put_number(up, Op::LoadMethod, method_number(method))?;
+        let higher = spot.above(2)?;
+        self.arguments(higher, args, args.len() + 1)
+    }
+
+    // E of each; CALL with a count
+    #[cycle(expression)]
+    fn arguments(&mut self, spot: Spot, args: &[Expression], count: usize) -> Result<(), AllocError>
+        ensures { OnOk result (self.new ≡ emitted self.old (λ at. scheme.in_turn (map (scheme.expression_code self.old.locals) args.now) spot at ++ (spec.put (spec.above (length args.now) spot) Op.Call (Number count) ∷ []))) }
+    {
+        self.expressions(spot, args)?;
+        self.put_number(spot.above(args.len())?, Op::Call, count)
+    }
+
+    // E(a); COPY 1; the jump to x; POP_TOP; E(b); x:
+    #[cycle(expression)]
+    fn short(
+        &mut self,
+        spot: Spot,
+        a: &Expression,
+        jump: Op,
+        b: &Expression,
+    ) -> Result<(), AllocError>
+        ensures { OnOk result (self.new ≡ emitted self.old (scheme.short_code (scheme.expression_code self.old.locals a.now) (scheme.expression_code self.old.locals b.now) jump spot)) }
+    {
+        self.expression(spot, a)?;
+        let up = spot.above(1)?;
+        let higher = spot.above(2)?;
+        self.put_number(up, Op::Copy, 1)?;
+        let hole = self.here();
+        self.put_plain(higher, jump)?;
+        self.put_plain(up, Op::PopTop)?;
+        self.expression(spot, b)?;
+        self.jump_here(hole, higher, jump);
+        Ok(())
+    }
+
+    // E(test); POP_JUMP_IF_FALSE x; E(a); JUMP_FORWARD y (-); x: E(b); y:
+    #[cycle(expression)]
+    fn conditional(
+        &mut self,
+        spot: Spot,
+        a: &Expression,
+        test: &Expression,
+        b: &Expression,
+    ) -> Result<(), AllocError>
+        ensures { OnOk result (self.new ≡ emitted self.old (scheme.conditional_code (scheme.expression_code self.old.locals a.now) (scheme.expression_code self.old.locals test.now) (scheme.expression_code self.old.locals b.now) spot)) }
+    {
+        self.expression(spot, test)?;
+        let up = spot.above(1)?;
+        let low = up.bare();
+        let branch = self.here();
+        self.put_plain(up, Op::PopJumpIfFalse)?;
+        self.expression(spot, a)?;
+        let jump = self.here();
+        self.put_plain(low, Op::JumpForward)?;
+        let other = self.here();
+        self.expression(spot, b)?;
+        let end = self.here();
+        self.set_jump(branch, up, Op::PopJumpIfFalse, other);
+        self.set_jump(jump, low, Op::JumpForward, end);
+        Ok(())
     }
 }
 
@@ -123,314 +302,4 @@ fn method_number(method: Method) -> usize
         Method::Throw => 12,
         Method::Close => 13,
     }
-}
-
-/// The code of an expression, which pushes one value.
-#[cycle(emit_expression)]
-pub fn emit_expression(
-    alloc: Global,
-    code: &mut Vec<Instruction>,
-    locals: &[Text],
-    spot: Spot,
-    expression: &Expression,
-) -> Result<(), AllocError>
-    ensures { OnOk result (code.new.items ≡ code.old.items ++ scheme.expression_code locals.now expression.now spot (length code.old.items)) }
-{
-    match expression {
-        Expression::Name(name) => put_name(alloc, code, locals, spot, name),
-        Expression::Integer(n) => put_constant(code, spot, Value::Int(*n)),
-        Expression::Text(characters) => {
-            put_constant(code, spot, Value::Text(text(alloc, characters)?))
-        }
-        Expression::Single(single) => put_constant(code, spot, single_value(*single)),
-        Expression::Empty => put_constant(code, spot, Value::Tuple(Items::new(alloc))),
-        Expression::Tuple(parts) => emit_tuple(alloc, code, locals, spot, parts.as_slice()),
-        Expression::Yield(_, None) => {
-            put_constant(code, spot, Value::None)?;
-            put_yield(code, spot)
-        }
-        Expression::Yield(_, Some(value)) => {
-            emit_expression(alloc, code, locals, spot, value.get())?;
-            put_yield(code, spot)
-        }
-        Expression::If(a, test, b) => {
-            emit_conditional(alloc, code, locals, spot, a.get(), test.get(), b.get())
-        }
-        Expression::Or(a, b) => {
-            emit_short(
-                alloc,
-                code,
-                locals,
-                spot,
-                a.get(),
-                b.get(),
-                Op::PopJumpIfTrue,
-            )
-        }
-        Expression::And(a, b) => {
-            emit_short(
-                alloc,
-                code,
-                locals,
-                spot,
-                a.get(),
-                b.get(),
-                Op::PopJumpIfFalse,
-            )
-        }
-        Expression::Not(a) => emit_one(alloc, code, locals, spot, a.get(), Op::UnaryNot),
-        Expression::Compare(op, a, b) => {
-            let number = comparison_number(*op);
-            let op = comparison_op(*op);
-            emit_two(alloc, code, locals, spot, a.get(), b.get(), op, number)
-        }
-        Expression::Is(a, single) => emit_is(alloc, code, locals, spot, a.get(), *single, 0),
-        Expression::IsNot(a, single) => emit_is(alloc, code, locals, spot, a.get(), *single, 1),
-        Expression::Binary(op, a, b) => {
-            let number = binary_number(*op);
-            emit_two(
-                alloc,
-                code,
-                locals,
-                spot,
-                a.get(),
-                b.get(),
-                Op::BinaryOp,
-                number,
-            )
-        }
-        Expression::Negative(a) => emit_one(alloc, code, locals, spot, a.get(), Op::UnaryNegative),
-        Expression::Call(f, args) => emit_call(alloc, code, locals, spot, f.get(), args.as_slice()),
-        Expression::Method(object, method, args) => {
-            let number = method_number(*method);
-            emit_method(
-                alloc,
-                code,
-                locals,
-                spot,
-                object.get(),
-                number,
-                args.as_slice(),
-            )
-        }
-        Expression::Subscript(a, i) => {
-            emit_two(
-                alloc,
-                code,
-                locals,
-                spot,
-                a.get(),
-                i.get(),
-                Op::BinarySubscr,
-                0,
-            )
-        }
-    }
-}
-
-// YIELD_VALUE; RESUME 1 (-), above a value.
-fn put_yield(code: &mut Vec<Instruction>, spot: Spot) -> Result<(), AllocError>
-    ensures { OnOk result (code.new.items ≡ code.old.items ++ (spec.put (spec.above 1 spot) Op.YieldValue spec.none ∷ (spec.put (spec.above 1 (spec.bare spot)) Op.Resume (Number 1) ∷ []))) }
-{
-    let up = above(1, spot)?;
-    put_plain(code, up, Op::YieldValue)?;
-    let bare = Spot { line: None, ..up };
-    put(code, bare, Op::Resume, Argument::Number(1))
-}
-
-// An operand, and then an operator.
-#[cycle(emit_expression)]
-fn emit_one(
-    alloc: Global,
-    code: &mut Vec<Instruction>,
-    locals: &[Text],
-    spot: Spot,
-    a: &Expression,
-    op: Op,
-) -> Result<(), AllocError>
-    ensures { OnOk result (code.new.items ≡ code.old.items ++ scheme.one_code (scheme.expression_code locals.now a.now) op spot (length code.old.items)) }
-{
-    emit_expression(alloc, code, locals, spot, a)?;
-    let up = above(1, spot)?;
-    put_plain(code, up, op)
-}
-
-// Two operands, and then an operator with a number.
-#[cycle(emit_expression)]
-fn emit_two(
-    alloc: Global,
-    code: &mut Vec<Instruction>,
-    locals: &[Text],
-    spot: Spot,
-    a: &Expression,
-    b: &Expression,
-    op: Op,
-    number: usize,
-) -> Result<(), AllocError>
-    ensures { OnOk result (code.new.items ≡ code.old.items ++ scheme.two_code (scheme.expression_code locals.now a.now) (scheme.expression_code locals.now b.now) op number spot (length code.old.items)) }
-{
-    emit_expression(alloc, code, locals, spot, a)?;
-    let up = above(1, spot)?;
-    emit_expression(alloc, code, locals, up, b)?;
-    let up = above(2, spot)?;
-    put(code, up, op, Argument::Number(number))
-}
-
-// An operand, and then IS_OP with a single.
-#[cycle(emit_expression)]
-fn emit_is(
-    alloc: Global,
-    code: &mut Vec<Instruction>,
-    locals: &[Text],
-    spot: Spot,
-    a: &Expression,
-    single: Single,
-    number: usize,
-) -> Result<(), AllocError>
-    ensures { OnOk result (code.new.items ≡ code.old.items ++ scheme.two_code (scheme.expression_code locals.now a.now) (scheme.constant_code (scheme.single_value single)) Op.IsOp number spot (length code.old.items)) }
-{
-    emit_expression(alloc, code, locals, spot, a)?;
-    let up = above(1, spot)?;
-    put_constant(code, up, single_value(single))?;
-    let up = above(2, spot)?;
-    put(code, up, Op::IsOp, Argument::Number(number))
-}
-
-// Expressions one after another, each above the values of those before.
-#[cycle(emit_expression)]
-fn emit_all(
-    alloc: Global,
-    code: &mut Vec<Instruction>,
-    locals: &[Text],
-    spot: Spot,
-    expressions: &[Expression],
-) -> Result<(), AllocError>
-    ensures { OnOk result (code.new.items ≡ code.old.items ++ scheme.in_turn (map (scheme.expression_code locals.now) expressions.now) spot (length code.old.items)) }
-{
-    let mut up = spot;
-    for expression in expressions {
-        emit_expression(alloc, code, locals, up, expression)?;
-        up = above(1, up)?;
-    }
-    Ok(())
-}
-
-#[cycle(emit_expression)]
-fn emit_tuple(
-    alloc: Global,
-    code: &mut Vec<Instruction>,
-    locals: &[Text],
-    spot: Spot,
-    parts: &[Expression],
-) -> Result<(), AllocError>
-    ensures { OnOk result (code.new.items ≡ code.old.items ++ scheme.tuple_code (map (scheme.expression_code locals.now) parts.now) spot (length code.old.items)) }
-{
-    emit_all(alloc, code, locals, spot, parts)?;
-    let up = above(parts.len(), spot)?;
-    put(code, up, Op::BuildTuple, Argument::Number(parts.len()))
-}
-
-#[cycle(emit_expression)]
-fn emit_call(
-    alloc: Global,
-    code: &mut Vec<Instruction>,
-    locals: &[Text],
-    spot: Spot,
-    f: &Expression,
-    args: &[Expression],
-) -> Result<(), AllocError>
-    ensures { OnOk result (code.new.items ≡ code.old.items ++ scheme.call_code (scheme.expression_code locals.now f.now) (map (scheme.expression_code locals.now) args.now) spot (length code.old.items)) }
-{
-    emit_expression(alloc, code, locals, spot, f)?;
-    let up = above(1, spot)?;
-    emit_all(alloc, code, locals, up, args)?;
-    let up = above(args.len(), up)?;
-    put(code, up, Op::Call, Argument::Number(args.len()))
-}
-
-#[cycle(emit_expression)]
-fn emit_method(
-    alloc: Global,
-    code: &mut Vec<Instruction>,
-    locals: &[Text],
-    spot: Spot,
-    object: &Expression,
-    method: usize,
-    args: &[Expression],
-) -> Result<(), AllocError>
-    ensures { OnOk result (code.new.items ≡ code.old.items ++ scheme.method_code (scheme.expression_code locals.now object.now) method (map (scheme.expression_code locals.now) args.now) spot (length code.old.items)) }
-{
-    emit_expression(alloc, code, locals, spot, object)?;
-    let up = above(1, spot)?;
-    put(code, up, Op::LoadMethod, Argument::Number(method))?;
-    let up = above(2, spot)?;
-    emit_all(alloc, code, locals, up, args)?;
-    let up = above(args.len(), up)?;
-    put(code, up, Op::Call, Argument::Number(args.len() + 1))
-}
-
-// E(a); COPY 1; the jump to x; POP_TOP; E(b); x:
-#[cycle(emit_expression)]
-fn emit_short(
-    alloc: Global,
-    code: &mut Vec<Instruction>,
-    locals: &[Text],
-    spot: Spot,
-    a: &Expression,
-    b: &Expression,
-    jump: Op,
-) -> Result<(), AllocError>
-    ensures { OnOk result (code.new.items ≡ code.old.items ++ scheme.short_code (scheme.expression_code locals.now a.now) (scheme.expression_code locals.now b.now) jump spot (length code.old.items)) }
-{
-    emit_expression(alloc, code, locals, spot, a)?;
-    let up = above(1, spot)?;
-    let higher = above(2, spot)?;
-    put(code, up, Op::Copy, Argument::Number(1))?;
-    let hole = code.len();
-    put_plain(code, higher, jump)?;
-    put_plain(code, up, Op::PopTop)?;
-    emit_expression(alloc, code, locals, spot, b)?;
-    let end = code.len();
-    code[hole] = jump_to(end, higher, jump);
-    Ok(())
-}
-
-/// A jump to an index.
-pub fn jump_to(to: usize, spot: Spot, op: Op) -> Instruction
-    ensures { result ≡ spec.put spot op (Destination (At to)) }
-{
-    Instruction {
-        op,
-        argument: Argument::Destination(Label::At(to)),
-        spot,
-    }
-}
-
-// E(test); POP_JUMP_IF_FALSE x; E(a); JUMP_FORWARD y (-); x: E(b); y:
-#[cycle(emit_expression)]
-fn emit_conditional(
-    alloc: Global,
-    code: &mut Vec<Instruction>,
-    locals: &[Text],
-    spot: Spot,
-    a: &Expression,
-    test: &Expression,
-    b: &Expression,
-) -> Result<(), AllocError>
-    ensures { OnOk result (code.new.items ≡ code.old.items ++ scheme.conditional_code (scheme.expression_code locals.now a.now) (scheme.expression_code locals.now test.now) (scheme.expression_code locals.now b.now) spot (length code.old.items)) }
-{
-    emit_expression(alloc, code, locals, spot, test)?;
-    let up = above(1, spot)?;
-    let bare = Spot { line: None, ..up };
-    let branch = code.len();
-    put_plain(code, up, Op::PopJumpIfFalse)?;
-    emit_expression(alloc, code, locals, spot, a)?;
-    let jump = code.len();
-    put_plain(code, bare, Op::JumpForward)?;
-    let other = code.len();
-    emit_expression(alloc, code, locals, spot, b)?;
-    let end = code.len();
-    code[branch] = jump_to(other, up, Op::PopJumpIfFalse);
-    code[jump] = jump_to(end, bare, Op::JumpForward);
-    Ok(())
 }

@@ -1,12 +1,12 @@
 //! The code of a function.
 
-ghost use Rattle.std.specs.Prelude.{◌≡◌, ◌++◌, OnOk, IfOk};
+ghost use Rattle.std.specs.Prelude.{◌≡◌, OnOk, IfOk};
+ghost use Rattle.mon_compile.specs.Emission.{emitted};
 ghost use Rattle.mon_compile.specs.Functions as spec;
 
-use crate::assembly::{Argument, Instruction};
-use crate::compound::emit_block;
-use crate::expressions::{put, put_constant, put_plain};
-use crate::surroundings::{Surroundings, above, no_line};
+use crate::assembly::Instruction;
+use crate::emitter::Emitter;
+use crate::surroundings::Surroundings;
 use crate::yields::is_generator;
 use mon_events::Op;
 use mon_lexer::Text;
@@ -23,31 +23,32 @@ pub fn function_code(
     requires { locals.now ≡ spec.locals_of function.now }
     ensures { IfOk result (λ code. code.items ≡ spec.function_code function.now) }
 {
-    let mut code = Vec::new(alloc);
-    let top = Surroundings::Top;
-    emit_start(&mut code, is_generator(function))?;
-    emit_block(alloc, &mut code, locals, &top, function.body.as_slice())?;
-    emit_end(&mut code)?;
-    Ok(code)
+    let mut emitter = Emitter::new(alloc, locals);
+    emitter.start(is_generator(function))?;
+    emitter.block(&Surroundings::Top, function.body.as_slice())?;
+    emitter.end()?;
+    Ok(emitter.into_code())
 }
 
-// What stands before the body.
-fn emit_start(code: &mut Vec<Instruction>, generates: bool) -> Result<(), AllocError>
-    ensures { OnOk result (code.new.items ≡ code.old.items ++ spec.start_code generates) }
-{
-    let spot = no_line(&Surroundings::Top)?;
-    if generates {
-        put_plain(code, spot, Op::ReturnGenerator)?;
-        put_plain(code, above(1, spot)?, Op::PopTop)?;
+impl Emitter<'_> {
+    // What stands before the body.
+    fn start(&mut self, generates: bool) -> Result<(), AllocError>
+        ensures { OnOk result (self.new ≡ emitted self.old (λ at. spec.start_code generates)) }
+    {
+        let spot = Surroundings::Top.no_line()?;
+        if generates {
+            self.put_plain(spot, Op::ReturnGenerator)?;
+            self.put_plain(spot.above(1)?, Op::PopTop)?;
+        }
+        self.put_number(spot, Op::Resume, 0)
     }
-    put(code, spot, Op::Resume, Argument::Number(0))
-}
 
-// What stands behind the body.
-fn emit_end(code: &mut Vec<Instruction>) -> Result<(), AllocError>
-    ensures { OnOk result (code.new.items ≡ code.old.items ++ spec.end_code) }
-{
-    let spot = no_line(&Surroundings::Top)?;
-    put_constant(code, spot, Value::None)?;
-    put_plain(code, above(1, spot)?, Op::ReturnValue)
+    // What stands behind the body.
+    fn end(&mut self) -> Result<(), AllocError>
+        ensures { OnOk result (self.new ≡ emitted self.old (λ at. spec.end_code)) }
+    {
+        let spot = Surroundings::Top.no_line()?;
+        self.put_constant(spot, Value::None)?;
+        self.put_plain(spot.above(1)?, Op::ReturnValue)
+    }
 }

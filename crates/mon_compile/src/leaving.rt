@@ -1,151 +1,133 @@
 //! The code that leaves the entries round a statement.
 
-ghost use Rattle.std.specs.Prelude.{◌≡◌, ◌++◌, length, OnOk};
-ghost use Rattle.mon_compile.specs.declared.assembly.Label.TheVariants.{At};
-ghost use Rattle.mon_compile.specs.Contexts.{left_by_break};
+ghost use Rattle.std.specs.Prelude.{◌≡◌, length, OnOk};
+ghost use Rattle.mon_events.specs.declared.op.Op.{Op};
+ghost use Rattle.mon_compile.specs.declared.assembly.Argument.TheVariants.{Destination};
+ghost use Rattle.mon_compile.specs.declared.assembly.Label.TheVariants.{At, EndOf};
+ghost use Rattle.mon_compile.specs.Contexts as spec;
+ghost use Rattle.mon_compile.specs.Emission.{emitted, one};
 ghost use Rattle.mon_compile.specs.Open.{open_context, clause_entry};
 ghost use Rattle.mon_compile.specs.Statements as scheme;
 
-use crate::assembly::{Argument, Instruction, Label};
-use crate::expressions::{put, put_plain};
-use crate::surroundings::{Surroundings, above, at_line, beside, depth, in_loop, no_line};
+use crate::assembly::Label;
+use crate::emitter::Emitter;
+use crate::surroundings::Surroundings;
 use mon_events::Op;
 use std::alloc::AllocError;
 
-/// Leaves all entries, under a returned value.
-pub fn leave_all(code: &mut Vec<Instruction>, context: &Surroundings) -> Result<(), AllocError>
-    ensures { OnOk result (code.new.items ≡ code.old.items ++ scheme.leave_all (open_context context.now) (length code.old.items)) }
-{
-    match context {
-        Surroundings::Top => Ok(()),
-        Surroundings::While(_, outer) => leave_all(code, outer),
-        Surroundings::For(_, outer) => {
-            let spot = above(2, no_line(outer)?)?;
-            put(code, spot, Op::Swap, Argument::Number(2))?;
-            put_plain(code, spot, Op::PopTop)?;
-            leave_all(code, outer)
-        }
-        Surroundings::Try(outer) => leave_all(code, outer),
-        Surroundings::Except(outer) => {
-            let spot = above(1, beside(1, no_line(outer)?)?)?;
-            put_plain(code, spot, Op::PopExcept)?;
-            leave_all(code, outer)
-        }
-        Surroundings::ExceptAs(local, outer) => {
-            let left = no_line(outer)?;
-            let spot = above(1, beside(1, left)?)?;
-            put_plain(code, spot, Op::PopExcept)?;
-            let spot = above(1, left)?;
-            put(code, spot, Op::DeleteFast, Argument::Number(*local))?;
-            leave_all(code, outer)
-        }
-    }
-}
-
-// Leaves an `except` clause for a jump, and deletes the local of its exception, if it has one.
-fn leave_clause(
-    code: &mut Vec<Instruction>,
-    local: Option<usize>,
-    outer: &Surroundings,
-) -> Result<(), AllocError>
-    ensures { OnOk result (code.new.items ≡ code.old.items ++ left_by_break (clause_entry local (At 0)) (open_context outer.now) (length code.old.items)) }
-{
-    let left = no_line(outer)?;
-    let spot = beside(1, left)?;
-    put_plain(code, spot, Op::PopExcept)?;
-    match local {
-        Some(local) => put(code, left, Op::DeleteFast, Argument::Number(local)),
-        None => Ok(()),
-    }
-}
-
-/// Leaves the entries up to and with that of the innermost loop, and jumps to its end.
-pub fn leave_loop(
-    code: &mut Vec<Instruction>,
-    line: u32,
-    context: &Surroundings,
-) -> Result<(), AllocError>
-    ensures { OnOk result (code.new.items ≡ code.old.items ++ scheme.leave_loop line (open_context context.now) (length code.old.items)) }
-{
-    match context {
-        Surroundings::Top => Ok(()),
-        Surroundings::While(_, outer) => {
-            let spot = at_line(line, outer)?;
-            let end = Label::EndOf(depth(outer)?);
-            put(code, spot, Op::JumpForward, Argument::Destination(end))
-        }
-        Surroundings::For(_, outer) => {
-            let spot = above(1, no_line(outer)?)?;
-            put_plain(code, spot, Op::PopTop)?;
-            let spot = at_line(line, outer)?;
-            let end = Label::EndOf(depth(outer)?);
-            put(code, spot, Op::JumpForward, Argument::Destination(end))
-        }
-        Surroundings::Try(outer) => leave_loop(code, line, outer),
-        Surroundings::Except(outer) => {
-            leave_clause(code, None, outer)?;
-            leave_loop(code, line, outer)
-        }
-        Surroundings::ExceptAs(local, outer) => {
-            leave_clause(code, Some(*local), outer)?;
-            leave_loop(code, line, outer)
+impl Emitter<'_> {
+    /// Leaves all entries, under a returned value.
+    pub fn leave_all(&mut self, context: &Surroundings) -> Result<(), AllocError>
+        ensures { OnOk result (self.new ≡ emitted self.old (scheme.leave_all (open_context context.now))) }
+    {
+        match context {
+            Surroundings::Top => Ok(()),
+            Surroundings::While(_, outer) => self.leave_all(outer),
+            Surroundings::For(_, outer) => {
+                let spot = outer.no_line()?.above(2)?;
+                self.put_number(spot, Op::Swap, 2)?;
+                self.put_plain(spot, Op::PopTop)?;
+                self.leave_all(outer)
+            }
+            Surroundings::Try(outer) => self.leave_all(outer),
+            Surroundings::Except(outer) => {
+                let spot = outer.no_line()?.beside(1)?.above(1)?;
+                self.put_plain(spot, Op::PopExcept)?;
+                self.leave_all(outer)
+            }
+            Surroundings::ExceptAs(local, outer) => {
+                let left = outer.no_line()?;
+                let spot = left.beside(1)?.above(1)?;
+                self.put_plain(spot, Op::PopExcept)?;
+                self.put_number(left.above(1)?, Op::DeleteFast, *local)?;
+                self.leave_all(outer)
+            }
         }
     }
-}
 
-/// Leaves the entries inside that of the innermost loop, and jumps back to its start.
-pub fn next_turn(
-    code: &mut Vec<Instruction>,
-    line: u32,
-    context: &Surroundings,
-) -> Result<(), AllocError>
-    ensures { OnOk result (code.new.items ≡ code.old.items ++ scheme.next_turn line (open_context context.now) (length code.old.items)) }
-{
-    match context {
-        Surroundings::Top => Ok(()),
-        Surroundings::While(start, _) | Surroundings::For(start, _) => {
-            let spot = at_line(line, context)?;
-            let start = Argument::Destination(Label::At(*start));
-            put(code, spot, Op::JumpBackward, start)
-        }
-        Surroundings::Try(outer) => next_turn(code, line, outer),
-        Surroundings::Except(outer) => {
-            leave_clause(code, None, outer)?;
-            next_turn(code, line, outer)
-        }
-        Surroundings::ExceptAs(local, outer) => {
-            leave_clause(code, Some(*local), outer)?;
-            next_turn(code, line, outer)
+    // Leaves an `except` clause for a jump, and deletes the local of its exception, if it has one.
+    fn leave_clause(&mut self, local: Option<usize>, outer: &Surroundings) -> Result<(), AllocError>
+        ensures { OnOk result (self.new ≡ emitted self.old (spec.left_by_break (clause_entry local (At 0)) (open_context outer.now))) }
+    {
+        let left = outer.no_line()?;
+        self.put_plain(left.beside(1)?, Op::PopExcept)?;
+        match local {
+            Some(local) => self.put_number(left, Op::DeleteFast, local),
+            None => Ok(()),
         }
     }
-}
 
-/// `break`, which outside a loop has no code.
-pub fn emit_break(
-    code: &mut Vec<Instruction>,
-    line: u32,
-    context: &Surroundings,
-) -> Result<(), AllocError>
-    ensures { OnOk result (code.new.items ≡ code.old.items ++ scheme.break_code line (open_context context.now) (length code.old.items)) }
-{
-    if in_loop(context) {
-        leave_loop(code, line, context)
-    } else {
-        Ok(())
+    // Leaves the entries up to and with that of the innermost loop, and jumps to its end.
+    fn leave_loop(&mut self, context: &Surroundings, line: u32) -> Result<(), AllocError>
+        ensures { OnOk result (self.new ≡ emitted self.old (scheme.leave_loop line (open_context context.now))) }
+    {
+        match context {
+            Surroundings::Top => Ok(()),
+            Surroundings::While(_, outer) => self.jump_to_end(outer, line),
+            Surroundings::For(_, outer) => {
+                self.put_plain(outer.no_line()?.above(1)?, Op::PopTop)?;
+                self.jump_to_end(outer, line)
+            }
+            Surroundings::Try(outer) => self.leave_loop(outer, line),
+            Surroundings::Except(outer) => {
+                self.leave_clause(None, outer)?;
+                self.leave_loop(outer, line)
+            }
+            Surroundings::ExceptAs(local, outer) => {
+                self.leave_clause(Some(*local), outer)?;
+                self.leave_loop(outer, line)
+            }
+        }
     }
-}
 
-/// `continue`, which outside a loop has no code.
-pub fn emit_continue(
-    code: &mut Vec<Instruction>,
-    line: u32,
-    context: &Surroundings,
-) -> Result<(), AllocError>
-    ensures { OnOk result (code.new.items ≡ code.old.items ++ scheme.continue_code line (open_context context.now) (length code.old.items)) }
-{
-    if in_loop(context) {
-        next_turn(code, line, context)
-    } else {
-        Ok(())
+    // Jumps to the end of the loop inside these entries.
+    fn jump_to_end(&mut self, outer: &Surroundings, line: u32) -> Result<(), AllocError>
+        ensures { OnOk result (self.new ≡ emitted self.old (one (spec.put (spec.at_line line (open_context outer.now)) Op.JumpForward (Destination (EndOf (length (open_context outer.now))))))) }
+    {
+        let end = Label::EndOf(outer.depth()?);
+        self.put_jump(outer.at_line(line)?, Op::JumpForward, end)
+    }
+
+    // Leaves the entries inside that of the innermost loop, and jumps back to its start.
+    fn next_turn(&mut self, context: &Surroundings, line: u32) -> Result<(), AllocError>
+        ensures { OnOk result (self.new ≡ emitted self.old (scheme.next_turn line (open_context context.now))) }
+    {
+        match context {
+            Surroundings::Top => Ok(()),
+            Surroundings::While(start, _) | Surroundings::For(start, _) => {
+                self.put_jump(context.at_line(line)?, Op::JumpBackward, Label::At(*start))
+            }
+            Surroundings::Try(outer) => self.next_turn(outer, line),
+            Surroundings::Except(outer) => {
+                self.leave_clause(None, outer)?;
+                self.next_turn(outer, line)
+            }
+            Surroundings::ExceptAs(local, outer) => {
+                self.leave_clause(Some(*local), outer)?;
+                self.next_turn(outer, line)
+            }
+        }
+    }
+
+    /// `break`, which outside a loop has no code.
+    pub fn break_loop(&mut self, context: &Surroundings, line: u32) -> Result<(), AllocError>
+        ensures { OnOk result (self.new ≡ emitted self.old (scheme.break_code line (open_context context.now))) }
+    {
+        if context.in_loop() {
+            self.leave_loop(context, line)
+        } else {
+            Ok(())
+        }
+    }
+
+    /// `continue`, which outside a loop has no code.
+    pub fn continue_loop(&mut self, context: &Surroundings, line: u32) -> Result<(), AllocError>
+        ensures { OnOk result (self.new ≡ emitted self.old (scheme.continue_code line (open_context context.now))) }
+    {
+        if context.in_loop() {
+            self.next_turn(context, line)
+        } else {
+            Ok(())
+        }
     }
 }

@@ -3,10 +3,12 @@
 
 mod assembly;
 mod bindings;
+mod catching;
 mod codes;
 mod compound;
 mod duplicates;
 mod earlier;
+mod emitter;
 mod expressions;
 mod fault;
 mod function;

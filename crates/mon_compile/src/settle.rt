@@ -1,12 +1,10 @@
 //! Open labels become indexes.
 
-ghost use Rattle.std.specs.Prelude.{◌≡◌, ◌+◌, ◌≤◌, length, OnOk};
+ghost use Rattle.std.specs.Prelude.{◌≡◌, ◌≤◌, length};
 ghost use Rattle.mon_compile.specs.Moved as moves;
 ghost use Rattle.mon_compile.specs.Open as opened;
 
 use crate::assembly::{Argument, Handler, Instruction, Label};
-use crate::surroundings::more;
-use std::alloc::AllocError;
 
 fn settled(label: Label, unknown: Label, done: usize) -> Label
     ensures { result ≡ opened.settle_label unknown done label }
@@ -50,19 +48,4 @@ pub fn settle(code: &mut Vec<Instruction>, from: usize, unknown: Label, done: us
     for i in from..code.len() {
         settle_one(&mut code[i], unknown, done);
     }
-}
-
-/// The same for the index that stands so many instructions behind the end.
-pub fn settle_behind(
-    code: &mut Vec<Instruction>,
-    from: usize,
-    unknown: Label,
-    behind: usize,
-) -> Result<(), AllocError>
-    requires { from ≤ length code.old.items }
-    ensures { OnOk result (code.new.items ≡ opened.changed_from (opened.settled unknown (length code.old.items + behind)) from code.old.items) }
-{
-    let done = more(behind, code.len())?;
-    settle(code, from, unknown, done);
-    Ok(())
 }

@@ -28,96 +28,107 @@ pub fn more(count: usize, n: usize) -> Result<usize, AllocError>
     n.checked_add(count).ok_or(AllocError)
 }
 
-/// The same spot above n more values.
-pub fn above(n: usize, spot: Spot) -> Result<Spot, AllocError>
-    ensures { IfOk result (λ s. s ≡ spec.above n spot) }
-{
-    let stack = more(spot.stack, n)?;
-    Ok(Spot { stack, ..spot })
-}
+impl Spot {
+    /// The same spot above n more values.
+    pub fn above(self, n: usize) -> Result<Spot, AllocError>
+        ensures { IfOk result (λ s. s ≡ spec.above n self) }
+    {
+        let stack = more(self.stack, n)?;
+        Ok(Spot { stack, ..self })
+    }
 
-/// The same spot beside n more exceptions.
-pub fn beside(n: usize, spot: Spot) -> Result<Spot, AllocError>
-    ensures { IfOk result (λ s. s ≡ spec.beside n spot) }
-{
-    let handling = more(spot.handling, n)?;
-    Ok(Spot { handling, ..spot })
-}
+    /// The same spot beside n more exceptions.
+    pub fn beside(self, n: usize) -> Result<Spot, AllocError>
+        ensures { IfOk result (λ s. s ≡ spec.beside n self) }
+    {
+        let handling = more(self.handling, n)?;
+        Ok(Spot { handling, ..self })
+    }
 
-/// How many entries there are.
-pub fn depth(context: &Surroundings) -> Result<usize, AllocError>
-    ensures { IfOk result (λ d. d ≡ length (open_context context.now)) }
-{
-    match context {
-        Surroundings::Top => Ok(0),
-        Surroundings::While(_, outer) => more(depth(outer)?, 1),
-        Surroundings::For(_, outer) => more(depth(outer)?, 1),
-        Surroundings::Try(outer) => more(depth(outer)?, 1),
-        Surroundings::Except(outer) => more(depth(outer)?, 1),
-        Surroundings::ExceptAs(_, outer) => more(depth(outer)?, 1),
+    /// The same spot without a line.
+    pub fn bare(self) -> Spot
+        ensures { result ≡ spec.bare self }
+    {
+        Spot { line: None, ..self }
     }
 }
 
-/// Whether a loop is open.
-pub fn in_loop(context: &Surroundings) -> bool
-    ensures { result ≡ spec.in_loop (open_context context.now) }
-{
-    match context {
-        Surroundings::Top => false,
-        Surroundings::While(_, _) => true,
-        Surroundings::For(_, _) => true,
-        Surroundings::Try(outer) => in_loop(outer),
-        Surroundings::Except(outer) => in_loop(outer),
-        Surroundings::ExceptAs(_, outer) => in_loop(outer),
-    }
-}
-
-// The handler of an entry inside these, at whose depths a spot stands.
-fn handler(outer: &Surroundings, spot: Spot) -> Result<Option<Handler>, AllocError>
-    ensures { IfOk result (λ h. h ≡ Some (record { to = HandlerOf (length (open_context outer.now)); stack = spot.stack; handling = spot.handling })) }
-{
-    let depth = depth(outer)?;
-    Ok(Some(Handler {
-        to: Label::HandlerOf(depth),
-        stack: spot.stack,
-        handling: spot.handling,
-    }))
-}
-
-/// The spot of an instruction without a line, at the depths of a context.
-pub fn no_line(context: &Surroundings) -> Result<Spot, AllocError>
-    ensures { IfOk result (λ s. s ≡ spec.no_line (open_context context.now)) }
-{
-    match context {
-        Surroundings::Top => Ok(Spot {
-            line: None,
-            handler: None,
-            stack: 0,
-            handling: 0,
-        }),
-        Surroundings::While(_, outer) => no_line(outer),
-        Surroundings::For(_, outer) => above(1, no_line(outer)?),
-        Surroundings::Try(outer) => {
-            let spot = no_line(outer)?;
-            let handler = handler(outer, spot)?;
-            Ok(Spot { handler, ..spot })
-        }
-        Surroundings::Except(outer) => beside(1, no_line(outer)?),
-        Surroundings::ExceptAs(_, outer) => {
-            let spot = no_line(outer)?;
-            let handler = handler(outer, spot)?;
-            beside(1, Spot { handler, ..spot })
+impl Surroundings<'_> {
+    /// How many entries there are.
+    pub fn depth(&self) -> Result<usize, AllocError>
+        ensures { IfOk result (λ d. d ≡ length (open_context self.now)) }
+    {
+        match self {
+            Surroundings::Top => Ok(0),
+            Surroundings::While(_, outer) => more(outer.depth()?, 1),
+            Surroundings::For(_, outer) => more(outer.depth()?, 1),
+            Surroundings::Try(outer) => more(outer.depth()?, 1),
+            Surroundings::Except(outer) => more(outer.depth()?, 1),
+            Surroundings::ExceptAs(_, outer) => more(outer.depth()?, 1),
         }
     }
-}
 
-/// The same at a line.
-pub fn at_line(line: u32, context: &Surroundings) -> Result<Spot, AllocError>
-    ensures { IfOk result (λ s. s ≡ spec.at_line line (open_context context.now)) }
-{
-    let spot = no_line(context)?;
-    Ok(Spot {
-        line: Some(line),
-        ..spot
-    })
+    /// Whether a loop is open.
+    pub fn in_loop(&self) -> bool
+        ensures { result ≡ spec.in_loop (open_context self.now) }
+    {
+        match self {
+            Surroundings::Top => false,
+            Surroundings::While(_, _) => true,
+            Surroundings::For(_, _) => true,
+            Surroundings::Try(outer) => outer.in_loop(),
+            Surroundings::Except(outer) => outer.in_loop(),
+            Surroundings::ExceptAs(_, outer) => outer.in_loop(),
+        }
+    }
+
+    // The handler of an entry inside these, at whose depths a spot stands.
+    fn handler(&self, spot: Spot) -> Result<Option<Handler>, AllocError>
+        ensures { IfOk result (λ h. h ≡ Some (record { to = HandlerOf (length (open_context self.now)); stack = spot.stack; handling = spot.handling })) }
+    {
+        let depth = self.depth()?;
+        Ok(Some(Handler {
+            to: Label::HandlerOf(depth),
+            stack: spot.stack,
+            handling: spot.handling,
+        }))
+    }
+
+    /// The spot of an instruction without a line, at the depths of these entries.
+    pub fn no_line(&self) -> Result<Spot, AllocError>
+        ensures { IfOk result (λ s. s ≡ spec.no_line (open_context self.now)) }
+    {
+        match self {
+            Surroundings::Top => Ok(Spot {
+                line: None,
+                handler: None,
+                stack: 0,
+                handling: 0,
+            }),
+            Surroundings::While(_, outer) => outer.no_line(),
+            Surroundings::For(_, outer) => outer.no_line()?.above(1),
+            Surroundings::Try(outer) => {
+                let spot = outer.no_line()?;
+                let handler = outer.handler(spot)?;
+                Ok(Spot { handler, ..spot })
+            }
+            Surroundings::Except(outer) => outer.no_line()?.beside(1),
+            Surroundings::ExceptAs(_, outer) => {
+                let spot = outer.no_line()?;
+                let handler = outer.handler(spot)?;
+                Spot { handler, ..spot }.beside(1)
+            }
+        }
+    }
+
+    /// The same at a line.
+    pub fn at_line(&self, line: u32) -> Result<Spot, AllocError>
+        ensures { IfOk result (λ s. s ≡ spec.at_line line (open_context self.now)) }
+    {
+        let spot = self.no_line()?;
+        Ok(Spot {
+            line: Some(line),
+            ..spot
+        })
+    }
 }

@@ -10,6 +10,7 @@ use Rattle.mon_compile.specs.Open.{open_step, open_context}
 use Rattle.mon_compile.specs.Expressions.{Locals}
 use Rattle.mon_compile.specs.Functions as spec
 use Rattle.mon_compile.specs.Statements.{block_code}
+use Rattle.mon_compile.proofs.Emissions.{locals_of, code_of}
 use Rattle.mon_compile.proofs.function.function_code.Goals as goal
 
 top_open : open_context surroundings.Top ≡ []
@@ -31,4 +32,6 @@ in_parts locals locals' body body' g g' c0 c1 c2 c3 e0 e1 e2 e3 same same_locals
 pub returns : goal.returns
 returns c =
     let f = c.args.function.now in
-    in_parts (spec.locals_of f) _ f.body _ (spec.is_generator f) _ _ _ _ _ c.new-code.ensures.items c.in_ok-emit_start.ensures c.in_ok-emit_block.ensures c.in_ok-emit_end.ensures c.is_generator.ensures c.requires c.as_slice.ensures
+    let same = ap locals_of c.in_ok-start.ensures ∙ ap locals_of c.new-emitter.ensures ∙ c.requires in
+    c.into_code.ensures
+    ∙ in_parts (spec.locals_of f) _ f.body _ (spec.is_generator f) _ _ _ _ _ (ap code_of c.new-emitter.ensures) (ap code_of c.in_ok-start.ensures) (ap code_of c.in_ok-block.ensures) (ap code_of c.in_ok-end.ensures) c.is_generator.ensures same c.as_slice.ensures

@@ -1,0 +1,249 @@
+//! The code of `try` and its clauses.
+
+ghost use Rattle.std.specs.Prelude.{◌≡◌, length, map, IfOk, OnOk};
+ghost use Rattle.mon_compile.specs.Contexts as spec;
+ghost use Rattle.mon_compile.specs.Emission.{emitted};
+ghost use Rattle.mon_compile.specs.Expressions as scheme;
+ghost use Rattle.mon_compile.specs.Open.{open_context, inside, ending};
+ghost use Rattle.mon_compile.specs.Statements as statements;
+
+use crate::assembly::{Label, Spot};
+use crate::emitter::Emitter;
+use crate::surroundings::Surroundings;
+use mon_events::Op;
+use mon_parser::tree::{Expression, Handler, Statement};
+use std::alloc::AllocError;
+
+impl Spot {
+    // The spot of a clause: the exception is on the stack and on the handling list.
+    fn in_clause(self) -> Result<Spot, AllocError>
+        ensures { IfOk result (λ s. s ≡ statements.in_clause self) }
+    {
+        self.beside(1)?.above(1)
+    }
+}
+
+impl Emitter<'_> {
+    /// NOP, and then the parts of a `try`.
+    #[cycle(statement)]
+    pub fn try_statement(
+        &mut self,
+        context: &Surroundings,
+        line: u32,
+        body: &[Statement],
+        clauses: &[Handler],
+        last: &[Statement],
+    ) -> Result<(), AllocError>
+        ensures { OnOk result (self.new ≡ emitted self.old (statements.try_code line (statements.block_code self.old.locals body.now) (map (statements.handler_code self.old.locals) clauses.now) (map (statements.statement_code self.old.locals) last.now) (open_context context.now))) }
+    {
+        if !last.is_empty() {
+            // Never reached: a `finally` is a fault, and faults are tried before code is made.
+            return Err(AllocError);
+        }
+        self.put_plain(context.at_line(line)?, Op::Nop)?;
+        self.handlers(context, body, clauses)
+    }
+
+    // The body; JUMP_FORWARD y (-); h: PUSH_EXC_INFO (-); the clauses; y:
+    #[cycle(statement)]
+    fn handlers(
+        &mut self,
+        context: &Surroundings,
+        body: &[Statement],
+        clauses: &[Handler],
+    ) -> Result<(), AllocError>
+        ensures { OnOk result (self.new ≡ emitted self.old (statements.handlers_code (statements.block_code self.old.locals body.now) (map (statements.handler_code self.old.locals) clauses.now) (open_context context.now))) }
+    {
+        self.try_body(context, body)?;
+        let jump = self.here();
+        let low = context.no_line()?;
+        self.put_plain(low, Op::JumpForward)?;
+        let up = low.above(1)?;
+        self.put_plain(up, Op::PushExcInfo)?;
+        self.clauses(context, clauses)?;
+        self.jump_here(jump, low, Op::JumpForward);
+        Ok(())
+    }
+
+    // The body of a `try`, whose handler stands one instruction behind the body.
+    #[cycle(statement)]
+    fn try_body(&mut self, context: &Surroundings, body: &[Statement]) -> Result<(), AllocError>
+        ensures { OnOk result (self.new ≡ emitted self.old (inside spec.Try 1 (statements.block_code self.old.locals body.now) (open_context context.now))) }
+    {
+        let from = self.here();
+        let handler = Label::HandlerOf(context.depth()?);
+        self.block(&Surroundings::Try(&*context), body)?;
+        self.settle_behind(from, handler, 1)
+    }
+
+    // The clauses of a `try`, which ends behind them.
+    #[cycle(statement)]
+    fn clauses(&mut self, context: &Surroundings, clauses: &[Handler]) -> Result<(), AllocError>
+        ensures { OnOk result (self.new ≡ emitted self.old (ending (statements.clauses_code (map (statements.handler_code self.old.locals) clauses.now)) (open_context context.now))) }
+    {
+        let from = self.here();
+        let end = Label::EndOf(context.depth()?);
+        self.each_clause(context, end, clauses)?;
+        self.settle_behind(from, end, 0)
+    }
+
+    // Each clause; RERAISE (-) unless the last clause is bare.
+    #[cycle(statement)]
+    fn each_clause(
+        &mut self,
+        context: &Surroundings,
+        end: Label,
+        clauses: &[Handler],
+    ) -> Result<(), AllocError>
+        ensures { OnOk result (self.new ≡ emitted self.old (statements.clauses_code (map (statements.handler_code self.old.locals) clauses.now) end (open_context context.now))) }
+    {
+        for clause in clauses {
+            self.clause(context, end, clause)?;
+            if clause.class.is_none() {
+                return Ok(());
+            }
+        }
+        let spot = context.no_line()?.in_clause()?;
+        self.put_plain(spot, Op::Reraise)
+    }
+
+    // The code of a clause whose statement has an end.
+    #[cycle(statement)]
+    fn clause(
+        &mut self,
+        context: &Surroundings,
+        end: Label,
+        clause: &Handler,
+    ) -> Result<(), AllocError>
+        ensures { OnOk result (self.new ≡ emitted self.old ((statements.handler_code self.old.locals clause.now).code end (open_context context.now))) }
+    {
+        let body = clause.body.as_slice();
+        match (&clause.class, &clause.name) {
+            (None, _) => self.except_bare(context, clause.line, end, body),
+            (Some(class), None) => self.except(context, clause.line, end, class, body),
+            (Some(class), Some(name)) => {
+                let local = self.local(name);
+                self.except_as(context, clause.line, end, class, local, body)
+            }
+        }
+    }
+
+    // POP_TOP; the body
+    #[cycle(statement)]
+    fn except_bare(
+        &mut self,
+        context: &Surroundings,
+        line: u32,
+        end: Label,
+        body: &[Statement],
+    ) -> Result<(), AllocError>
+        ensures { OnOk result (self.new ≡ emitted self.old (statements.bare_code line (statements.block_code self.old.locals body.now) end (open_context context.now))) }
+    {
+        let spot = context.at_line(line)?.in_clause()?;
+        self.put_plain(spot, Op::PopTop)?;
+        self.except_body(context, end, body)
+    }
+
+    // E(class); CHECK_EXC_MATCH; POP_JUMP_IF_FALSE z; POP_TOP; the body; z:
+    #[cycle(statement)]
+    fn except(
+        &mut self,
+        context: &Surroundings,
+        line: u32,
+        end: Label,
+        class: &Expression,
+        body: &[Statement],
+    ) -> Result<(), AllocError>
+        ensures { OnOk result (self.new ≡ emitted self.old (statements.except_code line (scheme.expression_code self.old.locals class.now) (statements.block_code self.old.locals body.now) end (open_context context.now))) }
+    {
+        let spot = context.at_line(line)?.in_clause()?;
+        self.ending(spot, class, Op::CheckExcMatch, 0)?;
+        let branch = self.here();
+        let up = spot.above(1)?;
+        self.put_plain(up, Op::PopJumpIfFalse)?;
+        self.put_plain(spot, Op::PopTop)?;
+        self.except_body(context, end, body)?;
+        self.jump_here(branch, up, Op::PopJumpIfFalse);
+        Ok(())
+    }
+
+    // The body; POP_EXCEPT (-); JUMP_FORWARD to the end (-)
+    #[cycle(statement)]
+    fn except_body(
+        &mut self,
+        context: &Surroundings,
+        end: Label,
+        body: &[Statement],
+    ) -> Result<(), AllocError>
+        ensures { OnOk result (self.new ≡ emitted self.old (statements.except_body (statements.block_code self.old.locals body.now) end (open_context context.now))) }
+    {
+        self.block(&Surroundings::Except(&*context), body)?;
+        let low = context.no_line()?;
+        let handling = low.beside(1)?;
+        self.put_plain(handling, Op::PopExcept)?;
+        self.put_jump(low, Op::JumpForward, end)
+    }
+
+    // E(class); CHECK_EXC_MATCH; POP_JUMP_IF_FALSE z; STORE_FAST n; the body; z:
+    #[cycle(statement)]
+    fn except_as(
+        &mut self,
+        context: &Surroundings,
+        line: u32,
+        end: Label,
+        class: &Expression,
+        local: usize,
+        body: &[Statement],
+    ) -> Result<(), AllocError>
+        ensures { OnOk result (self.new ≡ emitted self.old (statements.except_as_code line (scheme.expression_code self.old.locals class.now) local (statements.block_code self.old.locals body.now) end (open_context context.now))) }
+    {
+        let spot = context.at_line(line)?.in_clause()?;
+        self.ending(spot, class, Op::CheckExcMatch, 0)?;
+        let branch = self.here();
+        let up = spot.above(1)?;
+        self.put_plain(up, Op::PopJumpIfFalse)?;
+        self.put_number(spot, Op::StoreFast, local)?;
+        self.except_as_body(context, end, local, body)?;
+        self.jump_here(branch, up, Op::PopJumpIfFalse);
+        Ok(())
+    }
+
+    // The body; POP_EXCEPT (-); DELETE_FAST n (-); JUMP_FORWARD to the end (-); c: PUSH_EXC_INFO (-); DELETE_FAST n (-);
+    // RERAISE (-)
+    #[cycle(statement)]
+    fn except_as_body(
+        &mut self,
+        context: &Surroundings,
+        end: Label,
+        local: usize,
+        body: &[Statement],
+    ) -> Result<(), AllocError>
+        ensures { OnOk result (self.new ≡ emitted self.old (statements.except_as_body local (statements.block_code self.old.locals body.now) end (open_context context.now))) }
+    {
+        self.named_body(context, local, body)?;
+        let low = context.no_line()?;
+        self.put_plain(low.beside(1)?, Op::PopExcept)?;
+        self.put_number(low, Op::DeleteFast, local)?;
+        self.put_jump(low, Op::JumpForward, end)?;
+        self.put_plain(low.above(1)?, Op::PushExcInfo)?;
+        let spot = low.in_clause()?;
+        self.put_number(spot, Op::DeleteFast, local)?;
+        self.put_plain(spot, Op::Reraise)
+    }
+
+    // The body of a clause with a name, whose handler stands three instructions behind the body.
+    #[cycle(statement)]
+    fn named_body(
+        &mut self,
+        context: &Surroundings,
+        local: usize,
+        body: &[Statement],
+    ) -> Result<(), AllocError>
+        ensures { OnOk result (self.new ≡ emitted self.old (inside (spec.ExceptAs local) 3 (statements.block_code self.old.locals body.now) (open_context context.now))) }
+    {
+        let from = self.here();
+        let handler = Label::HandlerOf(context.depth()?);
+        self.block(&Surroundings::ExceptAs(local, &*context), body)?;
+        self.settle_behind(from, handler, 3)
+    }
+}

@@ -1,0 +1,183 @@
+//! The code of a function while it is made.
+
+ghost use Rattle.std.specs.Prelude.{◌≡◌, ◌+◌, ◌≤◌, ◌<◌, [], length, slice_set, OnOk};
+ghost use Rattle.mon_values.specs.declared.value.Value as values;
+ghost use Rattle.mon_compile.specs.declared.assembly.Argument.TheVariants.{Number, Destination};
+ghost use Rattle.mon_compile.specs.declared.assembly.Label.TheVariants.{At};
+ghost use Rattle.mon_compile.specs.Contexts as spec;
+ghost use Rattle.mon_compile.specs.Emission.{emitted, one};
+ghost use Rattle.mon_compile.specs.Expressions as scheme;
+ghost use Rattle.mon_compile.specs.Open as opened;
+
+use crate::assembly::{Argument, Instruction, Label, Spot};
+use crate::codes::text;
+use crate::scope::{copy, is_local, number_of_local};
+use crate::settle::settle;
+use crate::surroundings::more;
+use mon_events::Op;
+use mon_lexer::Text;
+use mon_values::value::Value;
+use sqlite_items::Items;
+use std::alloc::{AllocError, Global};
+use std::marker::Model;
+
+/// The code of a function while it is made, with the names of the function's locals.
+///
+/// The methods that add code add all of it, unless memory is short; the code is then of no use.
+#[derive(Debug, Drop)]
+pub struct Emitter<'a> {
+    alloc: Global,
+    locals: &'a [Text],
+    code: Vec<Instruction>,
+}
+
+impl<'a> Model for Emitter<'a> {
+    ghost use Rattle.mon_compile.specs.Emission.{Emission};
+    ghost use Rattle.mon_compile.specs.declared.assembly.Instruction.{Instruction as Made};
+    ghost use Rattle.mon_compile.specs.contracts.assembly.Instruction as instruction;
+    ghost use Rattle.std.specs.Prelude.{ℕ, List, refl};
+    ghost use Rattle.std.specs.Coded.{code_by, coded×, coded_list, coded_ℕ};
+
+    ghost Value = { Emission };
+
+    ghost coded = { code_by (List (List ℕ) × List Made) (coded× (coded_list (coded_list coded_ℕ)) (coded_list instruction.the_row.coded)) (λ e. (e.locals, e.code)) (λ p. record { locals = p.0; code = p.1 }) (λ _. refl) };
+
+    ghost view = { λ e. record { locals = e.locals.now; code = e.code.items } };
+}
+
+impl<'a> Emitter<'a> {
+    /// No code yet.
+    pub fn new(alloc: Global, locals: &'a [Text]) -> Self
+        ensures { result ≡ record { locals = locals.now; code = [] } }
+    {
+        Emitter {
+            alloc,
+            locals,
+            code: Vec::new(alloc),
+        }
+    }
+
+    /// The code.
+    pub fn into_code(self) -> Vec<Instruction>
+        ensures { result.items ≡ self.entry.code }
+    {
+        self.code
+    }
+}
+
+impl Emitter<'_> {
+    /// The index of the next instruction.
+    pub fn here(&self) -> usize
+        ensures { result ≡ length self.now.code }
+    {
+        self.code.len()
+    }
+
+    /// The number of a local.
+    pub fn local(&self, name: &Text) -> usize
+        ensures { result ≡ scheme.number_of_local self.now.locals name.now }
+    {
+        number_of_local(self.locals, name)
+    }
+
+    /// One more instruction.
+    pub fn put(&mut self, spot: Spot, op: Op, argument: Argument) -> Result<(), AllocError>
+        ensures { OnOk result (self.new ≡ emitted self.old (one (spec.put spot op argument))) }
+    {
+        self.code.push(Instruction { op, argument, spot })?;
+        Ok(())
+    }
+
+    /// One more instruction without an argument.
+    pub fn put_plain(&mut self, spot: Spot, op: Op) -> Result<(), AllocError>
+        ensures { OnOk result (self.new ≡ emitted self.old (one (spec.put spot op spec.none))) }
+    {
+        self.put(spot, op, Argument::Number(0))
+    }
+
+    /// One more instruction with a number.
+    pub fn put_number(&mut self, spot: Spot, op: Op, number: usize) -> Result<(), AllocError>
+        ensures { OnOk result (self.new ≡ emitted self.old (one (spec.put spot op (Number number)))) }
+    {
+        self.put(spot, op, Argument::Number(number))
+    }
+
+    /// One more jump.
+    pub fn put_jump(&mut self, spot: Spot, op: Op, to: Label) -> Result<(), AllocError>
+        ensures { OnOk result (self.new ≡ emitted self.old (one (spec.put spot op (Destination to)))) }
+    {
+        self.put(spot, op, Argument::Destination(to))
+    }
+
+    /// `LOAD_CONST`.
+    pub fn put_constant(&mut self, spot: Spot, value: Value) -> Result<(), AllocError>
+        ensures { OnOk result (self.new ≡ emitted self.old (scheme.constant_code value spot)) }
+    {
+        self.put(spot, Op::LoadConst, Argument::Constant(value))
+    }
+
+    /// `LOAD_CONST` with a text.
+    pub fn put_text(&mut self, spot: Spot, characters: &Text) -> Result<(), AllocError>
+        ensures { OnOk result (self.new ≡ emitted self.old (scheme.constant_code (values.Text characters.now) spot)) }
+    {
+        let value = Value::Text(text(self.alloc, characters)?);
+        self.put_constant(spot, value)
+    }
+
+    /// `LOAD_CONST` with the empty tuple.
+    pub fn put_empty(&mut self, spot: Spot) -> Result<(), AllocError>
+        ensures { OnOk result (self.new ≡ emitted self.old (scheme.constant_code (values.Tuple []) spot)) }
+    {
+        let value = Value::Tuple(Items::new(self.alloc));
+        self.put_constant(spot, value)
+    }
+
+    /// `LOAD_FAST` for a local, and `LOAD_GLOBAL` for another name.
+    pub fn put_name(&mut self, spot: Spot, name: &Text) -> Result<(), AllocError>
+        ensures { OnOk result (self.new ≡ emitted self.old (scheme.name_code self.old.locals name.now spot)) }
+    {
+        if is_local(self.locals, name) {
+            let number = number_of_local(self.locals, name);
+            self.put_number(spot, Op::LoadFast, number)
+        } else {
+            let name = copy(self.alloc, name)?;
+            self.put(spot, Op::LoadGlobal, Argument::Name(name))
+        }
+    }
+
+    /// What stands at an index becomes a jump to another.
+    pub fn set_jump(&mut self, at: usize, spot: Spot, op: Op, to: usize)
+        requires { at < length self.old.code }
+        ensures { self.new ≡ record self.old { code = slice_set self.old.code at (spec.put spot op (Destination (At to))) } }
+    {
+        self.code[at] = Instruction {
+            op,
+            argument: Argument::Destination(Label::At(to)),
+            spot,
+        };
+    }
+
+    /// What stands at an index becomes a jump to the end of the code.
+    pub fn jump_here(&mut self, at: usize, spot: Spot, op: Op)
+        requires { at < length self.old.code }
+        ensures { self.new ≡ record self.old { code = slice_set self.old.code at (spec.put spot op (Destination (At (length self.old.code)))) } }
+    {
+        let end = self.code.len();
+        self.set_jump(at, spot, op, end);
+    }
+
+    /// From an index on, an open label becomes the index so many instructions behind the end of the code.
+    pub fn settle_behind(
+        &mut self,
+        from: usize,
+        unknown: Label,
+        behind: usize,
+    ) -> Result<(), AllocError>
+        requires { from ≤ length self.old.code }
+        ensures { OnOk result (self.new ≡ record self.old { code = opened.changed_from (opened.settled unknown (length self.old.code + behind)) from self.old.code }) }
+    {
+        let done = more(behind, self.code.len())?;
+        settle(&mut self.code, from, unknown, done);
+        Ok(())
+    }
+}
