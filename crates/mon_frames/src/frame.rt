@@ -1,6 +1,10 @@
-ghost use Rattle.std.specs.Prelude.{◌≡◌, ◌<◌, ◌++◌, [], ◌∷◌, length, slice_get, slice_set, OnOk, OnErr, OnSome, MatchOption};
+ghost use Rattle.std.specs.Prelude.{◌≡◌, ◌-◌, ◌<◌, ◌++◌, [], ◌∷◌, length, map, replicate, Some, None, slice_get, slice_set, OnOk, OnErr, OnSome, IfOk, MatchOption};
 ghost use Rattle.std.specs.Option.{option_copied};
+ghost use Rattle.mon_frames.specs.Items.{lowest};
+ghost use Rattle.mon_frames.specs.Calls.{called};
 
+use crate::handling::Handling;
+use mon_code::Code;
 use mon_values::value::Value;
 use std::alloc::{AllocError, Global};
 use std::marker::Model;
@@ -47,6 +51,13 @@ impl Operands {
         ensures { MatchOption result ((self.old ≡ []) × (self.new ≡ [])) (λ top. self.old ≡ top ∷ self.new) }
     {
         self.items.pop()
+    }
+
+    /// Takes values off the top until no more than so many are left.
+    pub fn cut(&mut self, count: usize)
+        ensures { self.new ≡ lowest count self.old }
+    {
+        self.items.truncate(count)
     }
 }
 
@@ -120,6 +131,58 @@ pub struct Frame {
     pub index: u32,
     pub locals: Locals,
     pub stack: Operands,
+    pub handling: Handling,
     /// The line of the last executed instruction that has one.
     pub line: Option<u32>,
+}
+
+impl Frame {
+    /// The frame of a call of a code, which has this number in its program: the parameters are bound to the arguments, and
+    /// the other locals are not bound.
+    pub fn called(
+        alloc: Global,
+        code: &Code,
+        number: u16,
+        args: &[Value],
+    ) -> Result<Frame, AllocError>
+        ensures { IfOk result (λ frame. frame ≡ called code.now number args.now) }
+    {
+        let locals = locals_of(alloc, code.locals.len(), args)?;
+        Ok(Frame {
+            code: number,
+            index: 0,
+            locals,
+            stack: Operands::new(alloc),
+            handling: Handling::new(alloc),
+            line: None,
+        })
+    }
+}
+
+// The locals of a call: the arguments, and the others unbound.
+fn locals_of(alloc: Global, count: usize, args: &[Value]) -> Result<Locals, AllocError>
+    ensures { IfOk result (λ locals. locals ≡ map Some args.now ++ replicate (count - length args.now) None) }
+{
+    let mut locals = Locals::new(alloc);
+    push_bound(alloc, &mut locals, args)?;
+    push_unbound(&mut locals, count.saturating_sub(args.len()))?;
+    Ok(locals)
+}
+
+fn push_bound(alloc: Global, locals: &mut Locals, args: &[Value]) -> Result<(), AllocError>
+    ensures { OnOk result (locals.new ≡ locals.old ++ map Some args.now) }
+{
+    for arg in args {
+        locals.push(Some(arg.copy(alloc)?))?;
+    }
+    Ok(())
+}
+
+fn push_unbound(locals: &mut Locals, count: usize) -> Result<(), AllocError>
+    ensures { OnOk result (locals.new ≡ locals.old ++ replicate count None) }
+{
+    for _k in 0..count {
+        locals.push(None)?;
+    }
+    Ok(())
 }

@@ -1,6 +1,18 @@
-//! The frames of a thread.
+//! The frames of a thread, its generators and its iterators.
 #![tactic(auto)]
 
+mod call;
+mod fault;
 mod frame;
+mod handling;
+mod iteration;
+mod stack;
+#[cfg(test)]
+mod tests;
 
+pub use call::{By, Call, Generator, Origin};
+pub use fault::{FrameFault, IterFault};
 pub use frame::{Frame, Locals, Operands};
+pub use handling::Handling;
+pub use iteration::Iteration;
+pub use stack::{Frames, MAX_FRAMES, handler_of};

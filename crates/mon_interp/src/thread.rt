@@ -1,10 +1,10 @@
-ghost use Rattle.std.specs.Prelude.{◌≡◌, ◌≤◌, ◌-◌, ◌++◌, length, map, take, replicate, Some, None, OnOk, IfOk};
+ghost use Rattle.std.specs.Prelude.{◌≡◌};
 ghost use Rattle.mon_interp.specs.declared.thread.AdvanceFault.TheVariants as advance_fault;
 ghost use Rattle.mon_interp.specs.declared.thread.EntryFault.TheVariants as entry_fault;
 
 use crate::machine::Machine;
 use mon_code::{Code, Program};
-use mon_frames::{Frame, Locals, Operands};
+use mon_frames::Frame;
 use mon_machine::Mode;
 use mon_recorders::ThreadReport;
 use mon_values::value::Value;
@@ -86,35 +86,6 @@ impl Model for Thread {
     ghost view = { λ t. record { progress = progress_of t.machine; failed = t.failed } };
 }
 
-// The locals of a call: the arguments, and the others unbound.
-fn locals_of(alloc: Global, count: usize, args: &[Value]) -> Result<Locals, AllocError>
-    requires { length args.now ≤ count }
-    ensures { IfOk result (λ locals. locals ≡ map Some args.now ++ replicate (count - length args.now) None) }
-{
-    let mut locals = Locals::new(alloc);
-    push_bound(alloc, &mut locals, args)?;
-    push_unbound(&mut locals, count - args.len())?;
-    Ok(locals)
-}
-
-fn push_bound(alloc: Global, locals: &mut Locals, args: &[Value]) -> Result<(), AllocError>
-    ensures { OnOk result (locals.new ≡ locals.old ++ map Some args.now) }
-{
-    for arg in args {
-        locals.push(Some(arg.copy(alloc)?))?;
-    }
-    Ok(())
-}
-
-fn push_unbound(locals: &mut Locals, count: usize) -> Result<(), AllocError>
-    ensures { OnOk result (locals.new ≡ locals.old ++ replicate count None) }
-{
-    for _k in 0..count {
-        locals.push(None)?;
-    }
-    Ok(())
-}
-
 impl Thread {
     ghost use Rattle.std.specs.Prelude.{◌≡◌, ◌+◌, ◌≤◌, length, map, true, false, not, IsTrue, OnOk, OnErr, IfOk, Ok, Err, []};
     ghost use Rattle.mon_words.specs.History.{base_in};
@@ -133,14 +104,7 @@ impl Thread {
         requires { length args.now ≤ length code.now.locals }
         ensures { IfOk result (λ t. t ≡ beginning code.now number args.now) }
     {
-        let locals = locals_of(alloc, code.locals.len(), args)?;
-        let frame = Frame {
-            code: number,
-            index: 0,
-            locals,
-            stack: Operands::new(alloc),
-            line: None,
-        };
+        let frame = Frame::called(alloc, code, number, args)?;
         let machine = Machine {
             alloc,
             frame,

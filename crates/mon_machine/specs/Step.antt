@@ -1,5 +1,5 @@
 -- One step of the plain machine, with all its events.
-use Rattle.std.specs.Prelude.{ℕ, ◌+◌, ◌-◌, ◌*◌, ◌==◌, nat_lt, Bool, true, false, List, [], ◌∷◌, ◌++◌, length, take, replicate, map, Option, Some, None, Result, Ok, Err, slice_get, slice_set, if◌then◌else◌}
+use Rattle.std.specs.Prelude.{ℕ, ◌+◌, ◌*◌, ◌==◌, nat_lt, Bool, true, false, List, [], ◌∷◌, ◌++◌, length, take, Option, Some, None, Result, Ok, Err, slice_get, slice_set, if◌then◌else◌}
 use Rattle.mon_values.specs.declared.value.Value.{Value, Bool as Truth, Exc as Raised-value}
 use Rattle.mon_values.specs.declared.value.Exc.{Exc}
 use Rattle.mon_values.specs.declared.fault.Trouble.{Trouble}
@@ -19,6 +19,7 @@ use Rattle.mon_code.specs.declared.program.Location.{Location}
 use Rattle.mon_code.specs.Programs.{Parts, op_at, location_at}
 use Rattle.mon_code.specs.Operators.{arith_op_of, cmp_op_of}
 use Rattle.mon_frames.specs.declared.frame.Frame.{Frame}
+use Rattle.mon_frames.specs.Calls.{called}
 use Rattle.mon_recorders.specs.declared.report.Outcome.{Outcome}
 use Rattle.mon_recorders.specs.Happenings.{Happening, Kind, Local, Global}
 use Rattle.mon_machine.specs.declared.mode.Mode.{Mode}
@@ -193,4 +194,4 @@ goes Mode.Stuck = false
 
 -- the first state of a thread that calls a code with these arguments
 abbrev pub start : Code → ℕ → List Value → State
-start c code args = ends (record { code = code; index = 0; locals = map Some args ++ replicate (length c.locals - length args) None; stack = []; line = None }) Mode.Run
+start c code args = ends (called c code args) Mode.Run

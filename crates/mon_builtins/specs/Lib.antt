@@ -1,0 +1,4 @@
+pub mod Literals
+pub mod Extremes
+pub mod Builtins
+pub mod Answers

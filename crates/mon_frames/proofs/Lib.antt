@@ -1,0 +1,4 @@
+pub mod Lists
+pub mod Tops
+pub mod Ranges
+pub mod Taking

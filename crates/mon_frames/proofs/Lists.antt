@@ -1,0 +1,62 @@
+-- Lists by their last item, and lists that are seen from their end.
+use Rattle.std.proofs.Common.{◌≡◌, ℕ, zero, suc, ◌+◌, ◌-◌, ◌<◌, List, [], ◌∷◌, ◌++◌, length, take, drop, get_or, reverse, refl, sym, ap, ◌∙◌, arith, length-append, length-drop}
+use Rattle.std.specs.Prelude.{slice_get, slice_set, Some, None}
+use Rattle.std.proofs.lemmas.List.{reverse-append, length-reverse, take-append-drop, drop_more}
+use Rattle.std.proofs.lemmas.Option.{slice_get_within, get_or_from_slice_get}
+use Rattle.std.proofs.Math.Seq.{drop-append_seam, drop-nil}
+use Rattle.mon_frames.specs.Items.{lowest}
+
+pub record Ends {A : Type 0} (xs : List A) : Type 0 where
+  pub front : List A
+  pub last : A
+  pub is : xs ≡ front ++ last ∷ []
+
+ends : {A : Type 0} (x : A) (xs : List A) → Ends (x ∷ xs)
+ends x [] = record { front = []; last = x; is = refl }
+ends x (y ∷ ys) = let e = ends y ys in record { front = x ∷ e.front; last = e.last; is = ap (λ l. x ∷ l) e.is }
+
+pub ends_of : {A : Type 0} (xs : List A) → 0 < length xs → Ends xs
+ends_of [] h = absurd (omega arith)
+ends_of (x ∷ xs) h = ends x xs
+
+pub get_seam : {A : Type 0} (front : List A) (last d : A) → get_or (front ++ last ∷ []) (length front) d ≡ last
+get_seam [] last d = refl
+get_seam (x ∷ front) last d = get_seam front last d
+
+slice_get_seam : {A : Type 0} (front : List A) (last : A) → slice_get (front ++ last ∷ []) (length front) ≡ Some last
+slice_get_seam [] last = refl
+slice_get_seam (x ∷ front) last = slice_get_seam front last
+
+first_of_ends : {A : Type 0} (xs front : List A) (last : A) → xs ≡ front ++ last ∷ [] → slice_get xs (length xs - 1) ≡ slice_get (reverse xs) 0
+first_of_ends xs front last e =
+    let at : length xs - 1 ≡ length front = omega (arith, ap length e, length-append front (last ∷ [])) in
+    ap (λ k. slice_get xs k) at
+    ∙ ap (λ l. slice_get l (length front)) e
+    ∙ slice_get_seam front last
+    ∙ sym (ap (λ l. slice_get (reverse l) 0) e ∙ ap (λ l. slice_get l 0) (reverse-append front (last ∷ [])))
+
+-- the last item comes first where a list is seen from its end
+pub first_reversed : {A : Type 0} (xs : List A) → slice_get xs (length xs - 1) ≡ slice_get (reverse xs) 0
+first_reversed [] = refl
+first_reversed (x ∷ xs) = let e = ends x xs in first_of_ends (x ∷ xs) e.front e.last e.is
+
+-- what is kept from the front is the lowest where a list is seen from its end
+pub cut_reversed : {A : Type 0} (xs : List A) (n : ℕ) → reverse (take n xs) ≡ lowest n (reverse xs)
+cut_reversed xs n =
+    let split : reverse xs ≡ reverse (drop n xs) ++ reverse (take n xs) = ap (λ l. reverse l) (sym (take-append-drop n xs)) ∙ reverse-append (take n xs) (drop n xs) in
+    let at : length (reverse xs) - n ≡ length (reverse (drop n xs)) = omega (arith, length-reverse xs, length-reverse (drop n xs), length-drop n xs) in
+    sym (ap (λ k. drop k (reverse xs)) at ∙ ap (λ l. drop (length (reverse (drop n xs))) l) split ∙ drop-append_seam (reverse (drop n xs)) (reverse (take n xs)))
+
+-- what is left of a list from a place on
+pub left_none : {A : Type 0} (xs : List A) (i : ℕ) → slice_get xs i ≡ None → drop i xs ≡ []
+left_none [] i e = drop-nil i
+left_none (x ∷ xs) zero e = absurd cc
+left_none (x ∷ xs) (suc i) e = left_none xs i e
+
+pub left_some : {A : Type 0} (xs : List A) (i : ℕ) (x : A) → slice_get xs i ≡ Some x → drop i xs ≡ x ∷ drop (i + 1) xs
+left_some xs i x e = drop_more xs i x (slice_get_within xs i x e) ∙ ap (λ y. y ∷ drop (i + 1) xs) (get_or_from_slice_get xs i x x e)
+
+pub set_same : {A : Type 0} (xs : List A) (i : ℕ) (x : A) → slice_get xs i ≡ Some x → slice_set xs i x ≡ xs
+set_same [] i x e = absurd cc
+set_same (y ∷ ys) zero x e = let same : x ≡ y = cc in ap (λ z. z ∷ ys) same
+set_same (y ∷ ys) (suc i) x e = ap (λ l. y ∷ l) (set_same ys i x e)

@@ -1,0 +1,42 @@
+-- A call's answer is the due one, or want of memory with the frames as before.
+use Rattle.std.specs.Prelude.{◌≡◌, List, [], ◌∷◌, ◌++◌, length, Option, Some, None, Result, Ok, Err}
+use Rattle.mon_values.specs.declared.value.Value.{Value, Iter}
+use Rattle.mon_values.specs.declared.fault.Trouble.{Trouble}
+use Rattle.mon_frames.specs.declared.fault.FrameFault.{FrameFault}
+use Rattle.mon_frames.specs.declared.fault.FrameFault.TheVariants as frame
+use Rattle.mon_frames.specs.declared.fault.IterFault.{IterFault}
+use Rattle.mon_frames.specs.declared.fault.IterFault.TheVariants as iter
+use Rattle.mon_frames.specs.Items.{items_of, or_none}
+use Rattle.mon_frames.specs.Views.{FramesView}
+
+-- the frames that are due, or their fault
+abbrev pub AnswersPush : {T : Type 0} → Result T FrameFault → Result FramesView FrameFault → FramesView → FramesView → Type 0
+AnswersPush (Ok t) (Ok due) old new = new ≡ due
+AnswersPush (Ok t) (Err fault) old new = ⊥
+AnswersPush (Err frame.Memory) due old new = new ≡ old
+AnswersPush (Err frame.Full) (Ok due) old new = ⊥
+AnswersPush (Err frame.Full) (Err fault) old new = (fault ≡ frame.Full) × (new ≡ old)
+
+-- the value and the frames that are due, or the exception
+abbrev pub AnswersIter : Result Value IterFault → Result (Value × FramesView) Trouble → FramesView → FramesView → Type 0
+AnswersIter (Ok x) (Ok due) old new = (x ≡ due.0) × (new ≡ due.1)
+AnswersIter (Ok x) (Err u) old new = ⊥
+AnswersIter (Err (iter.Trouble t)) (Ok due) old new = ⊥
+AnswersIter (Err (iter.Trouble t)) (Err u) old new = (t ≡ u) × (new ≡ old)
+AnswersIter (Err iter.Memory) due old new = new ≡ old
+
+-- the value that is due, if one is left, and what then is so
+abbrev pub AnswersNext : {E V : Type 0} → Result (Option Value) E → Option Value × V → V → V → Type 0
+AnswersNext (Ok x) due old new = (x ≡ due.0) × (new ≡ due.1)
+AnswersNext (Err e) due old new = new ≡ old
+
+-- the first of what is left is given, and no more
+abbrev pub GivesFirst : {E : Type 0} → Result (Option Value) E → List Value → List Value → Type 0
+GivesFirst (Ok None) old new = (old ≡ []) × (new ≡ [])
+GivesFirst (Ok (Some x)) old new = old ≡ x ∷ new
+GivesFirst (Err e) old new = new ≡ old
+
+-- a new iterator over the items of a value
+abbrev pub Adds : {E : Type 0} → Result Value E → Value → FramesView → FramesView → Type 0
+Adds (Ok x) v old new = (x ≡ Iter (length old.iterators)) × (new ≡ record old { iterators = old.iterators ++ or_none (items_of v) ∷ [] })
+Adds (Err e) v old new = new ≡ old
