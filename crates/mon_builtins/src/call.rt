@@ -2,7 +2,7 @@ ghost use Rattle.std.specs.Prelude.{◌≡◌, ◌<◌, IfOk};
 ghost use Rattle.mon_builtins.specs.Answers.{AnswersCall, GivesMade};
 ghost use Rattle.mon_builtins.specs.Builtins as spec;
 
-use crate::convert::{int, str_};
+use crate::convert::{int, text};
 use crate::extreme::{Wanted, extreme};
 use crate::given::{BuiltinFault, Given, Refusal, raise};
 use crate::number::{abs, len, range};
@@ -93,7 +93,7 @@ pub fn call_builtin(
         0 => print(alloc, args, names),
         1 => give(alloc, len(args)),
         2 => give(alloc, range(args)),
-        3 => give_made(alloc, str_(alloc, args, names)),
+        3 => give_made(alloc, text(alloc, args, names)),
         4 => give(alloc, int(args)),
         5 => give(alloc, abs(args)),
         6 => give_made(alloc, extreme(alloc, Wanted::Least, args)),

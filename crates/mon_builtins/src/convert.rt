@@ -13,7 +13,7 @@ use mon_values::weight::MAX_WEIGHT;
 use std::alloc::Global;
 
 /// `str(x)`
-pub fn str_(alloc: Global, args: &[Value], names: &[Text]) -> Result<Value, Refusal>
+pub fn text(alloc: Global, args: &[Value], names: &[Text]) -> Result<Value, Refusal>
     ensures { AnswersValue result (spec.text_due names.now args.now) }
 {
     match args {
