@@ -1,4 +1,4 @@
-ghost use Rattle.std.specs.Prelude.{◌≡◌, ◌-◌, length, min, drop, reverse, take};
+ghost use Rattle.std.specs.Prelude.{◌≡◌, ◌-◌, reverse};
 ghost use Rattle.mon_builtins.specs.Builtins.{spelled as due};
 ghost use Rattle.mon_builtins.specs.Literals as spec;
 

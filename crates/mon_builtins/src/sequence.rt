@@ -1,4 +1,4 @@
-ghost use Rattle.std.specs.Prelude.{◌≡◌, ◌+◌, ◌≤◌, map, IfOk};
+ghost use Rattle.std.specs.Prelude.{◌≡◌, ◌≤◌, map, IfOk};
 ghost use Rattle.mon_values.specs.declared.value.Value.{Tuple as the_tuple};
 ghost use Rattle.mon_values.specs.Ranges.{range_length};
 ghost use Rattle.mon_values.specs.Weights.{made};

@@ -1,6 +1,6 @@
 //! The code of `try` and its clauses.
 
-ghost use Rattle.std.specs.Prelude.{◌≡◌, length, map, IfOk, OnOk};
+ghost use Rattle.std.specs.Prelude.{◌≡◌, map, IfOk, OnOk};
 ghost use Rattle.mon_compile.specs.Contexts as spec;
 ghost use Rattle.mon_compile.specs.Emission.{emitted};
 ghost use Rattle.mon_compile.specs.Expressions as scheme;

@@ -1,6 +1,6 @@
 //! The code of statements with blocks.
 
-ghost use Rattle.std.specs.Prelude.{◌≡◌, length, map, OnOk};
+ghost use Rattle.std.specs.Prelude.{◌≡◌, map, OnOk};
 ghost use Rattle.mon_compile.specs.Contexts as spec;
 ghost use Rattle.mon_compile.specs.Emission.{emitted};
 ghost use Rattle.mon_compile.specs.Expressions as scheme;

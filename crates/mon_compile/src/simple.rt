@@ -1,6 +1,6 @@
 //! The code of statements without a block.
 
-ghost use Rattle.std.specs.Prelude.{◌≡◌, ◌+◌, [], ◌∷◌, ◌++◌, length, OnOk};
+ghost use Rattle.std.specs.Prelude.{◌≡◌, ◌+◌, [], ◌∷◌, ◌++◌, OnOk};
 ghost use Rattle.mon_events.specs.declared.op.Op.{Op};
 ghost use Rattle.mon_compile.specs.declared.assembly.Argument.TheVariants.{Number};
 ghost use Rattle.mon_compile.specs.Contexts as spec;

@@ -1,6 +1,6 @@
 //! What has no code yet: `yield` and `finally`.
 
-ghost use Rattle.std.specs.Prelude.{◌≡◌, ◌++◌, [], ◌∷◌, map};
+ghost use Rattle.std.specs.Prelude.{◌≡◌, [], ◌∷◌, map};
 ghost use Rattle.mon_compile.specs.Clauses.{clause_finally};
 ghost use Rattle.mon_compile.specs.Faults as spec;
 ghost use Rattle.mon_compile.specs.Functions.{joined};

@@ -1,4 +1,4 @@
-ghost use Rattle.std.specs.Prelude.{◌≡◌, ◌-◌, ◌<◌, ◌^◌, length, map, slice_get, IfOk, OnSome};
+ghost use Rattle.std.specs.Prelude.{◌≡◌, ◌-◌, ◌<◌, ◌^◌, map, slice_get, IfOk, OnSome};
 ghost use Rattle.mon_values.specs.Ranges.{range_length};
 ghost use Rattle.mon_frames.specs.Items.{items_of, range_items, one_char, or_none};
 ghost use Rattle.mon_frames.specs.Answers.{GivesFirst};

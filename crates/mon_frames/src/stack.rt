@@ -1,9 +1,8 @@
-ghost use Rattle.std.specs.Prelude.{◌≡◌, ◌<◌, ◌≤◌, [], ◌++◌, ◌∷◌, length, reverse, Some, OnOk, OnErr, IfOk};
+ghost use Rattle.std.specs.Prelude.{◌≡◌, ◌<◌, ◌≤◌, [], length, reverse, Some, OnOk, OnErr};
 ghost use Rattle.std.specs.Option.{option_copied};
 ghost use Rattle.std.specs.Borrow.{sem};
 ghost use Rattle.mon_frames.specs.Lending.{LendsTop};
 ghost use Rattle.mon_frames.specs.Calls.{called, handler_due};
-ghost use Rattle.mon_frames.specs.Items.{items_of};
 ghost use Rattle.mon_frames.specs.Views as spec;
 ghost use Rattle.mon_frames.specs.Iterating as iterating;
 ghost use Rattle.mon_frames.specs.Iterating.{iterated, next_of};
@@ -46,7 +45,7 @@ impl Model for Frames {
 }
 
 impl Frames {
-    ghost use Rattle.std.specs.Prelude.{◌≡◌, ◌<◌, ◌≤◌, [], ◌++◌, ◌∷◌, length, Some, OnOk, OnErr, IfOk};
+    ghost use Rattle.std.specs.Prelude.{◌≡◌, ◌<◌, ◌≤◌, [], length, Some, OnOk, OnErr};
     ghost use Rattle.std.specs.Option.{option_copied};
     ghost use Rattle.mon_frames.specs.Views as spec;
 
@@ -117,7 +116,7 @@ impl Frames {
             return Err(FrameFault::Full);
         }
         match program.code(function) {
-            None => Ok(()),
+            None => unreachable!(),
             Some(code) => Ok(self.enter(code, function, args)?),
         }
     }

@@ -4,12 +4,10 @@ use crate::play::{Count, Disable, Enter, Leave, Load, Poll, Retire};
 use mon_words::{WorldStopped, normal};
 
 impl Seat {
-    ghost use Rattle.std.specs.Prelude.{◌≡◌, ◌+◌, ◌∷◌, ◌++◌, [], ◌==◌, ◌<◌, ◌≤◌, ℕ, List, length, slice_index, nat_le, MatchResult};
+    ghost use Rattle.std.specs.Prelude.{◌≡◌, ◌+◌, ◌==◌, ◌<◌, ◌≤◌, ℕ, length, slice_index, nat_le, MatchResult};
     ghost use Rattle.mon_words.specs.Words.{Shows, stop_bit, mask_of};
     ghost use Rattle.mon_words.specs.History.{after, cell_at};
     ghost use Rattle.mon_words.specs.Told.{OneBit};
-    ghost use Rattle.mon_words.specs.declared.history.Mark.{Mark};
-    ghost use Rattle.mon_words.specs.declared.history.Mark.TheVariants.{Off};
     ghost use Rattle.mon_gate.specs.Rule.{inside};
     ghost use Rattle.mon_gate.specs.Plays.{Goes, Adds, looked, tried};
     ghost use Rattle.mon_gate.specs.Seats.{Belongs, Disabled};

@@ -1,6 +1,5 @@
-ghost use Rattle.std.specs.Prelude.{◌≡◌, ◌<◌, ◌≤◌, ◌+◌, IfOk, length};
+ghost use Rattle.std.specs.Prelude.{◌≡◌, ◌<◌, ◌+◌, IfOk, length};
 ghost use Rattle.std.specs.Thread.{IsSync};
-ghost use Rattle.mon_gate.specs.Rule.{first_view};
 ghost use Rattle.mon_gate.specs.Seats.{Belongs};
 ghost use Rattle.mon_gate.specs.declared.view.Phase.TheVariants.{Plain, Out, Idle as IdleNow};
 

@@ -1,6 +1,6 @@
 //! What each opcode does to its frame.
 
-ghost use Rattle.std.specs.Prelude.{◌≡◌, ◌<◌, ◌^◌, length, slice_get, ◌∷◌, IfOk, Option};
+ghost use Rattle.std.specs.Prelude.{◌≡◌, ◌<◌, slice_get, ◌∷◌, IfOk, Option};
 ghost use Rattle.std.specs.Option.{option_copied};
 ghost use Rattle.mon_values.specs.Arithmetic.{arith_of};
 ghost use Rattle.mon_values.specs.Troubles.{trouble_exc};

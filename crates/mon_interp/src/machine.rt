@@ -33,10 +33,10 @@ fn put<T: Drop>(place: &mut T, value: T)
 }
 
 impl Machine {
-    ghost use Rattle.std.specs.Prelude.{◌≡◌, ◌+◌, ◌<◌, ◌≤◌, ◌^◌, length, map, true, ℕ, Bool, IsTrue, OnOk, IfOk, []};
+    ghost use Rattle.std.specs.Prelude.{◌≡◌, ◌+◌, ◌<◌, ◌≤◌, ◌^◌, map, true, ℕ, Bool, IsTrue, OnOk, IfOk, []};
     ghost use Rattle.mon_words.specs.Words.{cell_of};
-    ghost use Rattle.mon_words.specs.History.{after, cell_at, base_in};
-    ghost use Rattle.mon_words.specs.Told.{Told, Sees};
+    ghost use Rattle.mon_words.specs.History.{after, base_in};
+    ghost use Rattle.mon_words.specs.Told.{Sees};
     ghost use Rattle.mon_code.specs.Programs.{Parts};
     ghost use Rattle.mon_machine.specs.Step.{step, executed, stuck, goes};
     ghost use Rattle.mon_machine.specs.Run.{is_heard, Ran, outcome_of};

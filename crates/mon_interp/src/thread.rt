@@ -101,7 +101,6 @@ impl Thread {
         number: u16,
         args: &[Value],
     ) -> Result<Thread, AllocError>
-        requires { length args.now ≤ length code.now.locals }
         ensures { IfOk result (λ t. t ≡ beginning code.now number args.now) }
     {
         let frame = Frame::called(alloc, code, number, args)?;

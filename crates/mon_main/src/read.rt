@@ -1,4 +1,4 @@
-ghost use Rattle.std.specs.Prelude.{◌≡◌, ◌<◌, ◌≤◌, ◌^◌, ◌==◌, ◌∷◌, ◌++◌, [], ℕ, List, length, slice_get, IfOk, IfSome, MatchOption, None, Some, true, false, string_bytes};
+ghost use Rattle.std.specs.Prelude.{◌≡◌, ◌<◌, ◌≤◌, ◌^◌, ◌==◌, ◌∷◌, [], length, slice_get, IfOk, IfSome, MatchOption, None, Some, true, false, string_bytes};
 ghost use Rattle.std.specs.List.{slice_split, list_all};
 ghost use Rattle.mon_main.specs.Plans.{plan_of, plan_fits, parameters_of, Answers};
 ghost use Rattle.mon_main.specs.Plans as spec;

@@ -1,6 +1,5 @@
 ghost use Rattle.std.specs.Prelude.{◌≡◌, ◌++◌, IfOk, OnOk, string_bytes, encode_utf8_all};
 ghost use Rattle.std.specs.Fmt.{decimal};
-ghost use Rattle.mon_values.specs.Classes.{name_at};
 ghost use Rattle.mon_values.specs.Printing.{repr_of};
 ghost use Rattle.mon_main.specs.Plans.{set_call as set_call_text, register_call as register_call_text};
 ghost use Rattle.mon_main.specs.Texts.{report_text};

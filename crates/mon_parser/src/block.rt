@@ -1,6 +1,6 @@
 //! Statements and constants, with the number of nodes of their depth.
 
-ghost use Rattle.std.specs.Prelude.{◌≡◌, ◌+◌, max};
+ghost use Rattle.std.specs.Prelude.{◌≡◌, ◌+◌};
 ghost use Rattle.mon_parser.specs.Depth.{simple_depth, stmt_depth, const_depth, targets_depth};
 ghost use Rattle.mon_parser.specs.Code.{Made};
 ghost use Rattle.mon_parser.specs.declared.tree.Statement as stmt;

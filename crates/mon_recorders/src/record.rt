@@ -1,4 +1,4 @@
-ghost use Rattle.std.specs.Prelude.{◌≡◌, [], take};
+ghost use Rattle.std.specs.Prelude.{◌≡◌, []};
 
 use mon_events::Event;
 use mon_values::text::Text;

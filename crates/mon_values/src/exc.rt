@@ -1,4 +1,3 @@
-ghost use Rattle.std.specs.Prelude.{◌≡◌, map};
 ghost use Rattle.std.specs.Option.{option_copied};
 ghost use Rattle.mon_values.specs.Answers.{AnswersExc};
 ghost use Rattle.mon_values.specs.Weights.{made_exc, exc_of};

@@ -1,4 +1,4 @@
-ghost use Rattle.std.specs.Prelude.{◌≡◌, ◌<◌, OnOk};
+ghost use Rattle.std.specs.Prelude.{◌≡◌, ◌<◌};
 ghost use Rattle.mon_values.specs.Answers.{AnswersIndex};
 ghost use Rattle.mon_values.specs.Arithmetic as arithmetic;
 ghost use Rattle.mon_values.specs.Indexing as spec;

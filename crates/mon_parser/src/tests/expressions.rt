@@ -3,7 +3,7 @@
 use super::{Row, check};
 use std::test::Fail;
 
-fn reads_operators_rows() -> &'static [Row] {
+fn reads_arithmetic_rows() -> &'static [Row] {
     &[
         (
             b"def f(): return a - b - c\n",
@@ -38,37 +38,19 @@ fn reads_operators_rows() -> &'static [Row] {
             "def@1 f() {return@1 (Multiply a (- b))};",
         ),
         (
-            b"def f(): return not a == b\n",
-            "def@1 f() {return@1 (not (Equal a b))};",
+            b"def f(): return a - b + c - d\n",
+            "def@1 f() {return@1 (Subtract (Add (Subtract a b) c) d)};",
         ),
-        (
-            b"def f(): return not not a\n",
-            "def@1 f() {return@1 (not (not a))};",
-        ),
-        (
-            b"def f(): return a and b or c and d\n",
-            "def@1 f() {return@1 (or (and a b) (and c d))};",
-        ),
-        (
-            b"def f(): return a or b or c\n",
-            "def@1 f() {return@1 (or (or a b) c)};",
-        ),
-        (
-            b"def f(): return a if b else c\n",
-            "def@1 f() {return@1 (if b a c)};",
-        ),
-        (
-            b"def f(): return a if b else c if d else e\n",
-            "def@1 f() {return@1 (if b a (if d c e))};",
-        ),
-        (
-            b"def f(): return (a if b else c) if d else e\n",
-            "def@1 f() {return@1 (if d (if b a c) e)};",
-        ),
-        (
-            b"def f(): return not a and not b\n",
-            "def@1 f() {return@1 (and (not a) (not b))};",
-        ),
+    ]
+}
+
+#[test]
+fn reads_arithmetic(rt: HostRuntime) -> Result<(), Fail> {
+    check(&rt, rt.alloc(), reads_arithmetic_rows())
+}
+
+fn reads_comparisons_rows() -> &'static [Row] {
+    &[
         (
             b"def f(): return a == b\n",
             "def@1 f() {return@1 (Equal a b)};",
@@ -113,13 +95,51 @@ fn reads_operators_rows() -> &'static [Row] {
             b"def f(): return a + b < c - d\n",
             "def@1 f() {return@1 (Less (Add a b) (Subtract c d))};",
         ),
+    ]
+}
+
+#[test]
+fn reads_comparisons(rt: HostRuntime) -> Result<(), Fail> {
+    check(&rt, rt.alloc(), reads_comparisons_rows())
+}
+
+fn reads_choices_rows() -> &'static [Row] {
+    &[
+        (
+            b"def f(): return not a == b\n",
+            "def@1 f() {return@1 (not (Equal a b))};",
+        ),
+        (
+            b"def f(): return not not a\n",
+            "def@1 f() {return@1 (not (not a))};",
+        ),
+        (
+            b"def f(): return a and b or c and d\n",
+            "def@1 f() {return@1 (or (and a b) (and c d))};",
+        ),
+        (
+            b"def f(): return a or b or c\n",
+            "def@1 f() {return@1 (or (or a b) c)};",
+        ),
+        (
+            b"def f(): return a if b else c\n",
+            "def@1 f() {return@1 (if b a c)};",
+        ),
+        (
+            b"def f(): return a if b else c if d else e\n",
+            "def@1 f() {return@1 (if b a (if d c e))};",
+        ),
+        (
+            b"def f(): return (a if b else c) if d else e\n",
+            "def@1 f() {return@1 (if d (if b a c) e)};",
+        ),
+        (
+            b"def f(): return not a and not b\n",
+            "def@1 f() {return@1 (and (not a) (not b))};",
+        ),
         (
             b"def f(): return a and b if c or d else not e\n",
             "def@1 f() {return@1 (if (or c d) (and a b) (not e))};",
-        ),
-        (
-            b"def f(): return a - b + c - d\n",
-            "def@1 f() {return@1 (Subtract (Add (Subtract a b) c) d)};",
         ),
         (
             b"def f(): return (not a) == b\n",
@@ -137,11 +157,11 @@ fn reads_operators_rows() -> &'static [Row] {
 }
 
 #[test]
-fn reads_operators(rt: HostRuntime) -> Result<(), Fail> {
-    check(&rt, rt.alloc(), reads_operators_rows())
+fn reads_choices(rt: HostRuntime) -> Result<(), Fail> {
+    check(&rt, rt.alloc(), reads_choices_rows())
 }
 
-fn reads_operands_rows() -> &'static [Row] {
+fn reads_atoms_rows() -> &'static [Row] {
     &[
         (b"def f(): return a\n", "def@1 f() {return@1 a};"),
         (b"def f(): return 7\n", "def@1 f() {return@1 7};"),
@@ -174,6 +194,24 @@ fn reads_operands_rows() -> &'static [Row] {
             b"def f(): return (yield a, b)\n",
             "def@1 f() {return@1 (yield@1 (, a b))};",
         ),
+        (
+            b"def f(): return (a, (b, c), ())\n",
+            "def@1 f() {return@1 (, a (, b c) ())};",
+        ),
+        (
+            b"def f(): return (\n  yield\n)\n",
+            "def@1 f() {return@1 (yield@2)};",
+        ),
+    ]
+}
+
+#[test]
+fn reads_atoms(rt: HostRuntime) -> Result<(), Fail> {
+    check(&rt, rt.alloc(), reads_atoms_rows())
+}
+
+fn reads_calls_rows() -> &'static [Row] {
+    &[
         (b"def f(): return f()\n", "def@1 f() {return@1 (call f)};"),
         (
             b"def f(): return f(a)\n",
@@ -217,10 +255,6 @@ fn reads_operands_rows() -> &'static [Row] {
             "def@1 f() {return@1 (- (at a b))};",
         ),
         (
-            b"def f(): return (a, (b, c), ())\n",
-            "def@1 f() {return@1 (, a (, b c) ())};",
-        ),
-        (
             b"def f(): return f((a, b))\n",
             "def@1 f() {return@1 (call f (, a b))};",
         ),
@@ -240,14 +274,10 @@ fn reads_operands_rows() -> &'static [Row] {
             b"def f(): return 'a'.send(b,).close()[c]\n",
             "def@1 f() {return@1 (at (Close (Send 'a' b)) c)};",
         ),
-        (
-            b"def f(): return (\n  yield\n)\n",
-            "def@1 f() {return@1 (yield@2)};",
-        ),
     ]
 }
 
 #[test]
-fn reads_operands(rt: HostRuntime) -> Result<(), Fail> {
-    check(&rt, rt.alloc(), reads_operands_rows())
+fn reads_calls(rt: HostRuntime) -> Result<(), Fail> {
+    check(&rt, rt.alloc(), reads_calls_rows())
 }

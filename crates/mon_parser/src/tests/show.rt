@@ -280,7 +280,7 @@ fn show_item(out: &mut String, item: &ModuleItem) -> Result<(), AllocError> {
 }
 
 /// The items of a text, or the fault.
-pub fn show(alloc: Global, text: &[u8]) -> Result<String, Fail> {
+pub(super) fn show(alloc: Global, text: &[u8]) -> Result<String, Fail> {
     let mut out = String::new(alloc);
     let items = mon_lexer::items(alloc, text)?;
     match parse(alloc, items.as_slice()) {

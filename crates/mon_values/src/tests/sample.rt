@@ -87,7 +87,7 @@ fn text_pair(alloc: Global, a: &str, b: &str) -> Result<Value, AllocError> {
     pair(alloc, a, b)
 }
 
-pub fn raised(alloc: Global, row: u8) -> Result<Value, AllocError> {
+pub(super) fn raised(alloc: Global, row: u8) -> Result<Value, AllocError> {
     Ok(Value::Exc(trouble_exc(alloc, Trouble(row), &['x'])?))
 }
 
@@ -96,7 +96,7 @@ fn nested_exc(alloc: Global, class: u8, depth: u64) -> Result<Value, AllocError>
     Ok(Value::Exc(Exc { class, arg }))
 }
 
-pub fn build(alloc: Global, sample: &Sample) -> Result<Value, AllocError> {
+pub(super) fn build(alloc: Global, sample: &Sample) -> Result<Value, AllocError> {
     match sample {
         Sample::None => Ok(Value::None),
         Sample::Bool(b) => Ok(Value::Bool(*b)),
@@ -134,15 +134,15 @@ pub enum Want {
     Raises(u8),
 }
 
-pub fn is_text(alloc: Global, printed: &Text, want: &str) -> Result<bool, AllocError> {
+pub(super) fn is_text(alloc: Global, printed: &Text, want: &str) -> Result<bool, AllocError> {
     Ok(printed.chars() == Text::from_ascii(alloc, want)?.chars())
 }
 
-pub fn prints_as(alloc: Global, v: &Value, want: &str) -> Result<bool, AllocError> {
+pub(super) fn prints_as(alloc: Global, v: &Value, want: &str) -> Result<bool, AllocError> {
     is_text(alloc, &repr(alloc, v, &[])?, want)
 }
 
-pub fn meets(alloc: Global, v: &Value, want: &Want) -> Result<bool, AllocError> {
+pub(super) fn meets(alloc: Global, v: &Value, want: &Want) -> Result<bool, AllocError> {
     match want {
         Want::Prints(ascii) => prints_as(alloc, v, ascii),
         Want::Weighs(weight) => Ok(v.spend(*weight) == Some(0)),
@@ -153,7 +153,7 @@ pub fn meets(alloc: Global, v: &Value, want: &Want) -> Result<bool, AllocError> 
     }
 }
 
-pub fn raises(trouble: Trouble, want: &Want) -> bool {
+pub(super) fn raises(trouble: Trouble, want: &Want) -> bool {
     match want {
         Want::Raises(row) => trouble.0 == *row,
         _ => false,

@@ -55,7 +55,7 @@ const BINARY: [&str; 5] = ["+", "-", "*", "//", "%"];
 
 const COMPARE: [&str; 6] = ["==", "!=", "<", "<=", ">", ">="];
 
-pub fn show_text(out: &mut String, text: &Text) -> Result<(), AllocError> {
+pub(super) fn show_text(out: &mut String, text: &Text) -> Result<(), AllocError> {
     for c in text.chars() {
         out.push(*c)?;
     }
@@ -63,7 +63,7 @@ pub fn show_text(out: &mut String, text: &Text) -> Result<(), AllocError> {
 }
 
 #[cycle(show_value)]
-pub fn show_value(out: &mut String, value: &Value) -> Result<(), AllocError> {
+pub(super) fn show_value(out: &mut String, value: &Value) -> Result<(), AllocError> {
     match value {
         Value::None => write!(out, "None"),
         Value::Bool(true) => write!(out, "True"),
@@ -210,7 +210,7 @@ fn show_place(out: &mut String, location: &Location) -> Result<(), AllocError> {
 }
 
 /// The instructions of a text's first code as `OFFSET LINE OPCODE ARGUMENT`, but for some at its ends.
-pub fn listing(alloc: Global, text: &[u8], from: usize, behind: usize) -> Result<String, Fail> {
+pub(super) fn listing(alloc: Global, text: &[u8], from: usize, behind: usize) -> Result<String, Fail> {
     let (program, bases) = compiled(alloc, text)?;
     let mut out = String::new(alloc);
     let Some(code) = program.code(0) else {
@@ -231,7 +231,7 @@ pub fn listing(alloc: Global, text: &[u8], from: usize, behind: usize) -> Result
 }
 
 /// The places of a text's first code as `OFFSET MARKS STACK HANDLING HANDLER`.
-pub fn places(alloc: Global, text: &[u8]) -> Result<String, Fail> {
+pub(super) fn places(alloc: Global, text: &[u8]) -> Result<String, Fail> {
     let (program, _) = compiled(alloc, text)?;
     let mut out = String::new(alloc);
     let Some(code) = program.code(0) else {

@@ -117,7 +117,7 @@ const TRIES: [Row; 5] = [
 ];
 
 /// Checks that the statements of these rows have their code.
-pub fn check(rt: &impl Abort, alloc: Global, rows: &[Row]) -> Result<(), Fail> {
+pub(super) fn check(rt: &impl Abort, alloc: Global, rows: &[Row]) -> Result<(), Fail> {
     for (statement, wanted) in rows {
         let text = filled(alloc, "def f(a, b):\n ", statement, 1, "\n")?;
         let out = listing(alloc, text.as_bytes(), 1, 2)?;
