@@ -63,7 +63,7 @@ pub struct ModuleConstant {
 }
 
 /// A program whose codes were checked. The base opcodes of its locations are known to contracts alone: they are handed
-/// out where the program is compiled, and nothing that runs reads them here.
+/// out where the program is compiled, and nothing that runs reads them here but for their number.
 #[derive(Debug, Drop)]
 pub struct Program {
     /// The names of the codes, in order.

@@ -10,7 +10,7 @@ use mon_events::Op;
 use sqlite_items::Items;
 use std::alloc::{AllocError, Global};
 
-/// The locations of a code with their marks. Takes time in proportion to the code.
+/// The locations of a code with their marks.
 pub fn marked(
     alloc: Global,
     code: &[Instruction],

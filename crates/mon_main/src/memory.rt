@@ -94,7 +94,7 @@ pub struct MemorySink {
 }
 
 impl MemorySink {
-    /// A sink that has no bytes yet.
+    /// A sink that holds these bytes, and to which nothing was written.
     pub fn new(bytes: Vec<u8>, failing: Vec<u64>) -> MemorySink
         ensures { result ≡ record { bytes = bytes; failing = failing; writes = 0; faults = 0 } }
     {

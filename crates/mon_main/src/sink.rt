@@ -31,7 +31,7 @@ pub trait Sink {
         ensures err_count { OnErr result (Rose (faults self.old) (faults self.new)) };
 }
 
-/// Writes a text in pieces of 4,096 bytes, the last one shorter; an empty text in none. It stops where a write fails.
+/// Writes a text in pieces of 4,096 bytes, the last one maybe shorter; an empty text in none. It stops where a write fails.
 pub fn write_all<K: Sink>(sink: &mut K, text: &[u8]) -> Result<(), SinkFault>
     ensures ok { OnOk result (Writes (K.written sink.old) text.now (K.written sink.new)) }
     ensures ok_count { OnOk result (K.faults sink.new ≡ K.faults sink.old) }

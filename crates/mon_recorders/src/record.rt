@@ -29,7 +29,7 @@ impl Cut {
         }
     }
 
-    /// The characters, at most 40.
+    /// The characters.
     pub fn chars(&self) -> &[char]
         ensures { result.now ≡ self.now }
     {
