@@ -30,7 +30,11 @@ fn arith_holds(alloc: Global, row: &ArithRow) -> Result<bool, AllocError> {
     arith_gives(alloc, row.0, &a, &b, &row.3)
 }
 
-pub(super) fn check_arith(rt: &impl Abort, alloc: Global, rows: &[ArithRow]) -> Result<(), AllocError> {
+pub(super) fn check_arith(
+    rt: &impl Abort,
+    alloc: Global,
+    rows: &[ArithRow],
+) -> Result<(), AllocError> {
     for (i, row) in rows.iter().enumerate() {
         assert!(rt; arith_holds(alloc, row)?, "row {i}");
     }

@@ -210,7 +210,12 @@ fn show_place(out: &mut String, location: &Location) -> Result<(), AllocError> {
 }
 
 /// The instructions of a text's first code as `OFFSET LINE OPCODE ARGUMENT`, but for some at its ends.
-pub(super) fn listing(alloc: Global, text: &[u8], from: usize, behind: usize) -> Result<String, Fail> {
+pub(super) fn listing(
+    alloc: Global,
+    text: &[u8],
+    from: usize,
+    behind: usize,
+) -> Result<String, Fail> {
     let (program, bases) = compiled(alloc, text)?;
     let mut out = String::new(alloc);
     let Some(code) = program.code(0) else {
