@@ -37,6 +37,8 @@ IsArgument c Op.CompareOp n = n < 6
 IsArgument c Op.ContainsOp n = n < 2
 IsArgument c Op.IsOp n = n < 2
 IsArgument c Op.RaiseVarargs n = n < 2
+IsArgument c Op.Copy n = n ≡ 1
+IsArgument c Op.Swap n = n ≡ 2
 IsArgument c _ n = Unit {0}
 
 -- RETURN_GENERATOR stands at index 0 alone, and YIELD_VALUE only in a code that begins with it

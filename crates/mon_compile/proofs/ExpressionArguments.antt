@@ -105,10 +105,10 @@ two_given n g a b op number o m k s at =
     given_append n g (a s at) (right ++ (put (above 2 s) op (Number number) ∷ [])) (m s at) (given_append n g right (put (above 2 s) op (Number number) ∷ []) (k (above 1 s) (at + length (a s at))) (o, tt))
 
 and_given : (n : ℕ) (g : Bool) (a b : Coder) → CoderGiven n g a → CoderGiven n g b → CoderGiven n g (short_code a b Op.PopJumpIfFalse)
-and_given n g a b m k s at = given_append n g (a s at) _ (m s at) (tt, (tt, (tt, k s (at + length (a s at) + 3))))
+and_given n g a b m k s at = given_append n g (a s at) _ (m s at) (refl, (tt, (tt, k s (at + length (a s at) + 3))))
 
 or_given : (n : ℕ) (g : Bool) (a b : Coder) → CoderGiven n g a → CoderGiven n g b → CoderGiven n g (short_code a b Op.PopJumpIfTrue)
-or_given n g a b m k s at = given_append n g (a s at) _ (m s at) (tt, (tt, (tt, k s (at + length (a s at) + 3))))
+or_given n g a b m k s at = given_append n g (a s at) _ (m s at) (refl, (tt, (tt, k s (at + length (a s at) + 3))))
 
 conditional_given : (n : ℕ) (g : Bool) (a c b : Coder) → CoderGiven n g a → CoderGiven n g c → CoderGiven n g b → CoderGiven n g (conditional_code a c b)
 conditional_given n g a c b ma mc mb s at =

@@ -19,7 +19,7 @@ use Rattle.mon_compile.specs.Expressions.{Locals, is_local}
 use Rattle.mon_compile.specs.Statements.{block_code}
 use Rattle.mon_compile.specs.Functions.{with_names, joined, names_of, locals_of, is_generator, start_code, end_code, function_code}
 use Rattle.mon_compile.specs.Placed.{number_in, placed_handler, depth_in, table_of, AllFit}
-use Rattle.mon_compile.specs.Given.{Below, IsConstantArgument, IsNameArgument, IsMethodArgument, Given, AllGiven}
+use Rattle.mon_compile.specs.Given.{Below, Exactly, IsConstantArgument, IsNameArgument, IsMethodArgument, Given, AllGiven}
 use Rattle.mon_compile.specs.Modules.{constants_in, constants_of, globals_in, globals_of, argument_of, locations_of, unmarked, marks, marked}
 use Rattle.mon_compile.proofs.ExpressionArguments.{given_append, none_constant}
 use Rattle.mon_compile.proofs.Arguments.{function_given}
@@ -114,6 +114,10 @@ below_is : (n k1 k2 : ℕ) (a : Argument) → Below n a → argument_of k1 k2 a 
 below_is n k1 k2 (Number m) h = h
 below_is n k1 k2 _ h = absurd h
 
+exactly_is : (n k1 k2 : ℕ) (a : Argument) → Exactly n a → argument_of k1 k2 a ≡ n
+exactly_is n k1 k2 (Number m) h = h
+exactly_is n k1 k2 _ h = absurd h
+
 constant_below : (n k1 k2 : ℕ) (a : Argument) → IsConstantArgument a → k1 + length (constants_in a) ≤ n → argument_of k1 k2 a < n
 constant_below n k1 k2 (Constant v) h room = omega (arith, room)
 constant_below n k1 k2 _ h room = absurd h
@@ -139,6 +143,8 @@ argument_given c g k1 k2 Op.CompareOp a h p q = below_is 6 k1 k2 a h
 argument_given c g k1 k2 Op.ContainsOp a h p q = below_is 2 k1 k2 a h
 argument_given c g k1 k2 Op.IsOp a h p q = below_is 2 k1 k2 a h
 argument_given c g k1 k2 Op.RaiseVarargs a h p q = below_is 2 k1 k2 a h
+argument_given c g k1 k2 Op.Copy a h p q = exactly_is 1 k1 k2 a h
+argument_given c g k1 k2 Op.Swap a h p q = exactly_is 2 k1 k2 a h
 argument_given c g k1 k2 _ a h p q = tt
 
 argument_stands : (c : Code) (g : Bool) (at k1 k2 : ℕ) (op : Op) (a : Argument) → Stands (length c.locals) g at op a → k1 + length (constants_in a) ≤ length c.constants → k2 + length (globals_in a) ≤ length c.globals → checked.IsArgument c op (argument_of k1 k2 a)

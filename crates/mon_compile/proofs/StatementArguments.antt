@@ -1,5 +1,5 @@
 -- The arguments of a statement's code are in range, and it yields only where the statement does.
-use Rattle.std.proofs.Common.{ℕ, ◌+◌, ◌<◌, IsTrue, Bool, true, false, List, [], ◌∷◌, ◌++◌, length}
+use Rattle.std.proofs.Common.{ℕ, ◌+◌, ◌<◌, IsTrue, Bool, true, false, List, [], ◌∷◌, ◌++◌, length, refl}
 use Rattle.std.specs.Prelude.{if◌then◌else◌}
 use Rattle.mon_events.specs.declared.op.Op.{Op}
 use Rattle.mon_parser.specs.declared.tree.BinaryOperator.{BinaryOperator}
@@ -46,13 +46,13 @@ block_given n g (a ∷ parts) m c p at = given_append n g (a c at) (block parts 
 
 return_given : (n : ℕ) (g : Bool) (e : Entry) (c : Context) → Safe n g (e ∷ c) → (at : ℕ) → AllGiven n g (left_by_return e c at)
 return_given n g (While x y) c p at = tt
-return_given n g (For x y) c p at = (tt, (tt, tt))
+return_given n g (For x y) c p at = (refl, (tt, tt))
 return_given n g (Try h) c p at = tt
 return_given n g Except c p at = (tt, tt)
 return_given n g (ExceptAs m l) c p at = (tt, (p.0, tt))
 return_given n g (Finally r b h) c p at = p.0 at
-return_given n g Raised c p at = (tt, (tt, (tt, tt)))
-return_given n g Returning c p at = (tt, (tt, tt))
+return_given n g Raised c p at = (tt, (refl, (tt, tt)))
+return_given n g Returning c p at = (refl, (tt, tt))
 
 break_given : (n : ℕ) (g : Bool) (e : Entry) (c : Context) → Safe n g (e ∷ c) → (at : ℕ) → AllGiven n g (left_by_break e c at)
 break_given n g (While x y) c p at = tt

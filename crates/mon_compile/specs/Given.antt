@@ -1,5 +1,5 @@
 -- What the opcodes of a code are given: arguments in range, and where those of generators may stand.
-use Rattle.std.specs.Prelude.{ℕ, ◌<◌, Bool, IsTrue, List, [], ◌∷◌}
+use Rattle.std.specs.Prelude.{ℕ, ◌<◌, ◌≡◌, Bool, IsTrue, List, [], ◌∷◌}
 use Rattle.mon_events.specs.declared.op.Op.{Op}
 use Rattle.mon_code.specs.Checked.{is_constant}
 use Rattle.mon_compile.specs.declared.assembly.Instruction.{Instruction}
@@ -10,6 +10,11 @@ use Rattle.mon_compile.specs.declared.assembly.Argument.TheVariants.{Number, Con
 abbrev pub Below : ℕ → Argument → Type 0
 Below n (Number m) = m < n
 Below n _ = ⊥
+
+-- this number
+abbrev pub Exactly : ℕ → Argument → Type 0
+Exactly n (Number m) = m ≡ n
+Exactly n _ = ⊥
 
 abbrev pub IsConstantArgument : Argument → Type 0
 IsConstantArgument (Constant v) = IsTrue (is_constant v)
@@ -42,6 +47,8 @@ Given locals generates Op.CompareOp a = Below 6 a
 Given locals generates Op.ContainsOp a = Below 2 a
 Given locals generates Op.IsOp a = Below 2 a
 Given locals generates Op.RaiseVarargs a = Below 2 a
+Given locals generates Op.Copy a = Exactly 1 a
+Given locals generates Op.Swap a = Exactly 2 a
 Given locals generates Op.ReturnGenerator a = ⊥
 Given locals generates Op.YieldValue a = IsTrue generates × IsPlainArgument a
 Given locals generates _ a = IsPlainArgument a
