@@ -22,8 +22,8 @@ pub struct Handler {
 /// What a code records of one of its locations. The offset of a location is twice its index in the code.
 #[derive(Clone, Copy, Debug, PartialEq, Eq)]
 pub struct Location {
-    /// The argument of the instruction: a number of a constant, a local, a global or an operator, a count, an index that
-    /// is jumped to, or 0.
+    /// The argument of the instruction: a number of a constant, a local, a global, a builtin or an operator, a count, an
+    /// index that is jumped to, or 0.
     pub argument: u32,
     /// The line in the file, counted from 1, where the instruction has one.
     pub line: Option<u32>,

@@ -19,7 +19,7 @@ pub enum Label {
 /// What an opcode is given.
 #[derive(Debug, Drop)]
 pub enum Argument {
-    /// A count, an operator or the number of a local; 0 where the opcode takes none.
+    /// A count, an operator, or the number of a local or a builtin; 0 where the opcode takes none.
     Number(usize),
     /// A constant.
     Constant(Value),

@@ -38,6 +38,7 @@ impl Operands {
         }
     }
 
+    /// Puts a value on top.
     pub fn push(&mut self, value: Value) -> Result<(), AllocError>
         ensures ok { OnOk result (self.new ≡ value ∷ self.old) }
         ensures err { OnErr result (self.new ≡ self.old) }
@@ -99,6 +100,7 @@ impl Locals {
         Ok(())
     }
 
+    /// How many locals there are.
     pub fn len(&self) -> usize
         ensures { result ≡ length self.now }
     {

@@ -13,9 +13,11 @@ pub struct Plan {
     pub steps: u64,
     /// The number of the code that the thread begins with.
     pub code: u16,
+    /// What the code is called with.
     pub args: Items<i64>,
     /// The tool's number, from 0 to 5.
     pub tool: u8,
+    /// The name that `use_tool_id` gives it.
     pub tool_name: Text,
     /// Whether `set_events` stands before `register_callback`.
     pub sets_first: bool,

@@ -103,7 +103,7 @@ impl Exc {
     ghost use Rattle.std.specs.Prelude.{◌≡◌};
     ghost use Rattle.mon_values.specs.Comparing as spec;
 
-    /// Whether this exception is equal to another, in class and argument.
+    /// How this exception compares with another: equal in class and argument, or unequal.
     #[cycle(verdict)]
     pub fn verdict(&self, other: &Exc) -> Verdict
         ensures { result ≡ spec.exc_verdict self.now other.now }

@@ -9,10 +9,15 @@ pub type Tuple = Items<Value>;
 #[cycle(value)]
 #[derive(Debug, Drop)]
 pub enum Value {
+    /// The value `None`.
     None,
+    /// `True` or `False`.
     Bool(bool),
+    /// An integer of 64 bits.
     Int(i64),
+    /// A text, as its characters.
     Text(Text),
+    /// A tuple of values.
     Tuple(Tuple),
     /// A function, by the number of its code.
     Function(u16),
@@ -20,6 +25,7 @@ pub enum Value {
     Builtin(u8),
     /// An exception class, by its number.
     ExcClass(u8),
+    /// An exception.
     Exc(Exc),
     /// A generator, by its number in its thread.
     Gen(u32),
@@ -35,7 +41,9 @@ pub enum Value {
 #[cycle(value)]
 #[derive(Debug, Drop)]
 pub struct Exc {
+    /// The number of its class.
     pub class: u8,
+    /// Its argument, if it has one.
     pub arg: Option<Boxed<Value>>,
 }
 

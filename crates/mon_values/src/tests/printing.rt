@@ -54,7 +54,7 @@ static PLAIN_ROWS: &[PrintRow] = &[
 ];
 
 #[test]
-fn plain_values_print_as_python_does(rt: HostRuntime) -> Result<(), Fail> {
+fn plain_values_print_by_their_kinds(rt: HostRuntime) -> Result<(), Fail> {
     check_print(&rt, rt.alloc(), PLAIN_ROWS)?;
     Ok(())
 }
@@ -189,7 +189,7 @@ static RAISED_ROWS: &[RaisedRow] = &[
 ];
 
 #[test]
-fn exceptions_of_the_machine(rt: HostRuntime) -> Result<(), Fail> {
+fn exceptions_of_the_machine_have_their_texts(rt: HostRuntime) -> Result<(), Fail> {
     let alloc = rt.alloc();
     for (i, row) in RAISED_ROWS.iter().enumerate() {
         assert!(rt; raised_holds(alloc, row)?, "row {i}");

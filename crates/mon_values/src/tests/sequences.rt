@@ -39,7 +39,7 @@ static CONTAINS_ROWS: &[ContainsRow] = &[
 ];
 
 #[test]
-fn containment(rt: HostRuntime) -> Result<(), Fail> {
+fn texts_tuples_and_ranges_contain_their_parts(rt: HostRuntime) -> Result<(), Fail> {
     let alloc = rt.alloc();
     for (i, row) in CONTAINS_ROWS.iter().enumerate() {
         assert!(rt; contains_holds(alloc, row)?, "row {i}");

@@ -32,7 +32,7 @@ static TRUTH_ROWS: &[TruthRow] = &[
 ];
 
 #[test]
-fn truths(rt: HostRuntime) -> Result<(), Fail> {
+fn empty_values_and_zeros_are_false(rt: HostRuntime) -> Result<(), Fail> {
     let alloc = rt.alloc();
     for (i, row) in TRUTH_ROWS.iter().enumerate() {
         assert!(rt; truth_holds(alloc, row)?, "row {i}");
@@ -41,7 +41,7 @@ fn truths(rt: HostRuntime) -> Result<(), Fail> {
 }
 
 #[test]
-fn classes_below_classes(rt: HostRuntime) {
+fn classes_are_below_their_parents(rt: HostRuntime) {
     assert!(rt; is_subclass(10, 9) && is_subclass(10, 0) && !is_subclass(9, 10));
     assert!(rt; is_subclass(77, 77) && !is_subclass(77, 0));
     assert!(rt; is_subclass(5, 4) && is_subclass(8, 7) && !is_subclass(2, 1));
