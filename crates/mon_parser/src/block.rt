@@ -7,7 +7,7 @@ ghost use Rattle.mon_parser.specs.declared.tree.Statement as stmt;
 ghost use Rattle.mon_parser.specs.declared.tree.Statement.TheViews as compound;
 ghost use Rattle.mon_parser.specs.declared.tree.Constant.TheViews as consts;
 
-use crate::grown::{Grown, deeper};
+use crate::grown::{Grown, MOST_NODES, deeper};
 use crate::refusal::Refusal;
 use crate::tree::{Constant, Handler, Simple, Statement, Targets};
 use mon_lexer::Text;
@@ -85,7 +85,7 @@ impl Model for GrownStatement {
 fn above(below: u32) -> Result<u32, Refusal>
     ensures { Made (λ n. n) (1 + below) result }
 {
-    if below < 256 {
+    if below < MOST_NODES {
         Ok(below + 1)
     } else {
         Err(Refusal::Syntax)

@@ -7,7 +7,9 @@ ghost use Rattle.mon_parser.specs.Readings.{at_level, below_level, at_negation, 
 ghost use Rattle.mon_parser.specs.Reader.{read_expr};
 
 use crate::cursor::{Cursor, Sign};
-use crate::grown::{Grown, Parts, compare, conditional, joined, negative, not, tuple, yielded};
+use crate::grown::{
+    Grown, MOST_NODES, Parts, compare, conditional, joined, negative, not, tuple, yielded,
+};
 use crate::levels::{Level, Suffix};
 use crate::operand::{
     asked, comparison_operator, end_ask, end_call, end_subscript, identity, leaf,
@@ -42,7 +44,7 @@ pub fn expression(
     conditional(alloc, value, test, other)
 }
 
-/// A level whose operators group to the left. Each turn makes a node over the last, so 256 are enough.
+/// A level whose operators group to the left. Each turn makes a node over the last, so as many turns as nodes are enough.
 #[cycle(expression)]
 fn left(
     alloc: Global,
@@ -54,7 +56,7 @@ fn left(
     ensures { Gives (at_level level brackets nodes cursor.old) result cursor.new }
 {
     let mut tree = lower(alloc, level, brackets, nodes, cursor)?;
-    for _turn in 0..256u32 {
+    for _turn in 0..MOST_NODES {
         match cursor.take_op(level) {
             None => return Ok(tree),
             Some(op) => {
@@ -157,7 +159,7 @@ fn compared(
     compare(alloc, op, first, last)
 }
 
-/// An atom with what stands behind it. Each turn makes a node over the last, so 256 are enough.
+/// An atom with what stands behind it. Each turn makes a node over the last, so as many turns as nodes are enough.
 #[cycle(expression)]
 fn postfix(
     alloc: Global,
@@ -168,7 +170,7 @@ fn postfix(
     ensures { Gives (at_postfix brackets nodes cursor.old) result cursor.new }
 {
     let mut tree = atom(alloc, brackets, nodes, cursor)?;
-    for _turn in 0..256u32 {
+    for _turn in 0..MOST_NODES {
         match cursor.take_suffix() {
             None => return Ok(tree),
             Some(found) => tree = suffix(alloc, tree, found, brackets, nodes, cursor)?,

@@ -11,6 +11,9 @@ use sqlite_items::{Boxed, Items};
 use std::alloc::{AllocError, Global};
 use std::marker::Model;
 
+/// How many nodes deep a tree may be.
+pub const MOST_NODES: u32 = 256;
+
 /// An expression, with the number of nodes of its depth.
 #[derive(Drop)]
 pub struct Grown {
@@ -60,7 +63,7 @@ fn made(tree: Expression, below: u32) -> Result<Grown, Refusal>
     requires { expr_depth tree ≡ 1 + below }
     ensures { Made expr_depth tree result }
 {
-    if below < 256 {
+    if below < MOST_NODES {
         Ok(Grown {
             tree,
             depth: below + 1,

@@ -7,6 +7,7 @@ ghost use Rattle.mon_parser.specs.Tokens.{most_open, open_after};
 
 use crate::constant::constants;
 use crate::cursor::{Cursor, Sign};
+use crate::grown::MOST_NODES;
 use crate::operand::texts;
 use crate::refusal::Refusal;
 use crate::statement::{body, parameters};
@@ -28,7 +29,7 @@ pub fn item(alloc: Global, brackets: usize, cursor: &mut Cursor) -> Result<Modul
         cursor.expect(Sign::Assign)?;
         let value = constants(alloc, brackets, cursor)?;
         cursor.expect(Sign::Newline)?;
-        if value.depth() < 256 {
+        if value.depth() < MOST_NODES {
             return Ok(ModuleItem::Constant(line, name, value.into_tree()));
         }
         return Err(Refusal::Syntax);
@@ -55,7 +56,7 @@ fn function(
     let parameters = parameters(alloc, cursor)?;
     cursor.expect(Sign::CloseRound)?;
     let body = body(alloc, brackets, 255, cursor)?;
-    if body.depth() < 256 {
+    if body.depth() < MOST_NODES {
         return Ok(ModuleItem::Function(Function {
             line,
             name,
