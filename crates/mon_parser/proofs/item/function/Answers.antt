@@ -21,12 +21,12 @@ pub returns-in_err-body : goal.returns-in_err-body
 returns-in_err-body c = refuses _ _ c.in_err-body.field-0.0 _ c.from_residual-in_err-body.ensures.1
     (λ e. stops_there _ _ _ (goes_on _ _ _ _ _ (goes_on _ _ _ _ _ (goes_on _ _ _ _ _ (goes_on _ _ _ _ _ (def_step _ _ _) c.in_ok-name.ensures) c.in_ok-expect.ensures) c.in_ok-parameters.ensures) c.in_ok-expect-2.ensures) (c.in_err-body.ensures e))
 
-pub returns-then-depth-lt256 : goal.returns-then-depth-lt256
-returns-then-depth-lt256 c =
+pub returns-then-depth-lt-MOST_NODES : goal.returns-then-depth-lt-MOST_NODES
+returns-then-depth-lt-MOST_NODES c =
     goes_on _ _ _ _ _ (goes_on _ _ _ _ _ (goes_on _ _ _ _ _ (goes_on _ _ _ _ _ (goes_on _ _ _ _ _ (def_step _ _ _) c.in_ok-name.ensures) c.in_ok-expect.ensures) c.in_ok-parameters.ensures) c.in_ok-expect-2.ensures) c.in_ok-body.ensures
-    ∙ function_fits _ _ _ _ _ _ (omega (arith, c.depth.ensures, c.if-depth-lt256.true)) c.into_items.ensures
+    ∙ function_fits _ _ _ _ _ _ (omega (arith, c.depth.ensures, c.if-depth-lt-MOST_NODES.true)) c.into_items.ensures
 
 pub returns : goal.returns
 returns c = λ e.
     goes_on _ _ _ _ _ (goes_on _ _ _ _ _ (goes_on _ _ _ _ _ (goes_on _ _ _ _ _ (goes_on _ _ _ _ _ (def_step _ _ _) c.in_ok-name.ensures) c.in_ok-expect.ensures) c.in_ok-parameters.ensures) c.in_ok-expect-2.ensures) c.in_ok-body.ensures
-    ∙ function_deep _ _ _ _ _ (omega (arith, c.depth.ensures, c.if-depth-lt256.false))
+    ∙ function_deep _ _ _ _ _ (omega (arith, c.depth.ensures, c.if-depth-lt-MOST_NODES.false))

@@ -18,13 +18,13 @@ returns-in_err-value c = refuses _ _ c.in_err-value.field-0.0 _ c.from_residual-
 pub returns-in_err-expect-2 : goal.returns-in_err-expect-2
 returns-in_err-expect-2 c = refuses _ _ c.in_err-expect-2.field-0.0 _ c.from_residual-in_err-expect-2.ensures.1 (λ e. no_end _ _ _ _ _ _ _ _ _ (is_named _ _ _ _ _ c.if-take.ensures.other c.in-Some.ensures) c.in_ok-expect.ensures c.in_ok-value.ensures (c.in_err-expect-2.ensures e))
 
-pub returns-then-depth-lt256 : goal.returns-then-depth-lt256
-returns-then-depth-lt256 c =
-    reads_constant _ _ _ _ _ _ _ _ _ _ _ _ _ _ (is_named _ _ _ _ _ c.if-take.ensures.other c.in-Some.ensures) c.in_ok-expect.ensures c.in_ok-value.ensures c.in_ok-expect-2.ensures (omega (arith, c.depth.ensures, c.if-depth-lt256.true))
+pub returns-then-depth-lt-MOST_NODES : goal.returns-then-depth-lt-MOST_NODES
+returns-then-depth-lt-MOST_NODES c =
+    reads_constant _ _ _ _ _ _ _ _ _ _ _ _ _ _ (is_named _ _ _ _ _ c.if-take.ensures.other c.in-Some.ensures) c.in_ok-expect.ensures c.in_ok-value.ensures c.in_ok-expect-2.ensures (omega (arith, c.depth.ensures, c.if-depth-lt-MOST_NODES.true))
     c.line-line.ensures (c.in_ok-name.ensures ∙ c.as_slice.ensures) c.into_tree.ensures
 
 pub returns-in-Some : goal.returns-in-Some
-returns-in-Some c = λ e. too_deep _ _ _ _ _ _ _ _ _ _ _ (is_named _ _ _ _ _ c.if-take.ensures.other c.in-Some.ensures) c.in_ok-expect.ensures c.in_ok-value.ensures c.in_ok-expect-2.ensures (omega (arith, c.depth.ensures, c.if-depth-lt256.false))
+returns-in-Some c = λ e. too_deep _ _ _ _ _ _ _ _ _ _ _ (is_named _ _ _ _ _ c.if-take.ensures.other c.in-Some.ensures) c.in_ok-expect.ensures c.in_ok-value.ensures c.in_ok-expect-2.ensures (omega (arith, c.depth.ensures, c.if-depth-lt-MOST_NODES.false))
 
 pub returns-in-None : goal.returns-in-None
 returns-in-None c = λ e. no_text _ _ (is_text _ _ _ _ c.if-take.ensures.other c.in_default.ensures) c.in-None.ensures.0
