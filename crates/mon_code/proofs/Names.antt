@@ -1,5 +1,7 @@
 -- What is left of two texts where one has ended.
-use Rattle.std.proofs.Common.{◌≡◌, ℕ, ◌<◌, ◌≤◌, List, [], ◌∷◌, length, drop, refl, arith, length-drop, true, false}
+use Rattle.std.proofs.Common.{ap, sym, ◌∙◌, ◌&&◌, ◌==◌, Bool, ◌≡◌, ℕ, ◌<◌, ◌≤◌, List, [], ◌∷◌, length, drop, refl, arith, length-drop, true, false}
+use Rattle.std.proofs.Math.Dec.{eqb}
+use Rattle.std.specs.Cmp.Lexicographic.{pointwise}
 use Rattle.mon_code.specs.Programs.{is_text}
 
 none : (a b : List ℕ) → length a ≡ 0 → length b ≡ 0 → is_text a b ≡ true
@@ -17,3 +19,10 @@ both_end a b i e h = none (drop i a) (drop i b) (omega (arith, length-drop i a))
 
 pub one_ends : (a b : List ℕ) (i : ℕ) → length a ≤ i → i < length b → is_text (drop i a) (drop i b) ≡ false
 one_ends a b i e h = shorter (drop i a) (drop i b) (omega (arith, length-drop i a)) (omega (arith, length-drop i b))
+
+-- texts are the same where each of their characters is
+pub by_each : (a b : List ℕ) → is_text a b ≡ pointwise eqb a b
+by_each [] [] = refl
+by_each [] (y ∷ b) = refl
+by_each (x ∷ a) [] = refl
+by_each (x ∷ a) (y ∷ b) = ap (λ (t : Bool). x == y && t) (by_each a b)

@@ -5,4 +5,4 @@ mod operator;
 mod program;
 
 pub use operator::{arith_number, arith_op_of_number, cmp_number, cmp_op_of_number};
-pub use program::{Code, Handler, Location, ModuleConstant, Program};
+pub use program::{Code, Handler, Location, ModuleConstant, Program, is_named, is_same};

@@ -149,6 +149,20 @@ impl Program {
         unreachable!()
     }
 
+    /// The number of the code that a text names.
+    #[tactic(auto, using(crate::proofs::Codes::few_names))]
+    pub fn code_called(&self, name: &Text) -> Option<u16>
+        ensures checked { IsChecked self.now }
+        ensures value { result ≡ spec.code_named self.now name.now }
+    {
+        for (k, text) in self.names.as_slice().iter().enumerate() {
+            if is_same(text, name) {
+                return Some(k as u16);
+            }
+        }
+        None
+    }
+
     /// The number of the code with this name.
     #[tactic(auto, using(crate::proofs::Codes::few_names))]
     pub fn code_named(&self, name: &str) -> Option<u16>
@@ -164,8 +178,16 @@ impl Program {
     }
 }
 
+/// Whether two texts have the same characters.
+pub fn is_same(a: &Text, b: &Text) -> bool
+    ensures { result ≡ spec.is_text a.now b.now }
+{
+    a.chars() == b.chars()
+}
+
+/// Whether a text has the characters of an ASCII string.
 #[tactic(auto, using(crate::proofs::Names::both_end, crate::proofs::Names::one_ends))]
-fn is_named(text: &Text, name: &str) -> bool
+pub fn is_named(text: &Text, name: &str) -> bool
     ensures { result ≡ spec.is_text text.now name.now }
 {
     let bytes = name.as_bytes();

@@ -1,5 +1,5 @@
 -- Lists by their last item, and lists that are seen from their end.
-use Rattle.std.proofs.Common.{◌≡◌, ℕ, zero, suc, ◌+◌, ◌-◌, ◌<◌, List, [], ◌∷◌, ◌++◌, length, take, drop, get_or, reverse, refl, sym, ap, ◌∙◌, arith, length-append, length-drop}
+use Rattle.std.proofs.Common.{add-one, ◌≡◌, ℕ, zero, suc, ◌+◌, ◌-◌, ◌<◌, List, [], ◌∷◌, ◌++◌, length, take, drop, get_or, reverse, refl, sym, ap, ◌∙◌, arith, length-append, length-drop}
 use Rattle.std.specs.Prelude.{slice_get, slice_set, Some, None}
 use Rattle.std.proofs.lemmas.List.{reverse-append, length-reverse, take-append-drop, drop_more}
 use Rattle.std.proofs.lemmas.Option.{slice_get_within, get_or_from_slice_get}
@@ -60,3 +60,23 @@ pub set_same : {A : Type 0} (xs : List A) (i : ℕ) (x : A) → slice_get xs i �
 set_same [] i x e = absurd cc
 set_same (y ∷ ys) zero x e = let same : x ≡ y = cc in ap (λ z. z ∷ ys) same
 set_same (y ∷ ys) (suc i) x e = ap (λ l. y ∷ l) (set_same ys i x e)
+
+apart : {A : Type 0} (x : A) (rest : List A) → [] ≡ x ∷ rest → ⊥
+apart x rest e = cc
+
+take_suc : {A : Type 0} (xs : List A) (n : ℕ) (x : A) (rest : List A) → drop n xs ≡ x ∷ rest → take (suc n) xs ≡ take n xs ++ x ∷ []
+take_suc [] n x rest e = absurd (apart x rest (sym (drop-nil n) ∙ e))
+take_suc (y ∷ ys) zero x rest e = let same : y ≡ x = cc in ap (λ z. z ∷ []) same
+take_suc (y ∷ ys) (suc n) x rest e = ap (λ l. y ∷ l) (take_suc ys n x rest e)
+
+drop_suc : {A : Type 0} (xs : List A) (n : ℕ) (x : A) (rest : List A) → drop n xs ≡ x ∷ rest → drop (suc n) xs ≡ rest
+drop_suc [] n x rest e = absurd (apart x rest (sym (drop-nil n) ∙ e))
+drop_suc (y ∷ ys) zero x rest e = cc
+drop_suc (y ∷ ys) (suc n) x rest e = drop_suc ys n x rest e
+
+-- what is taken from the front, and what is left, when one more is taken
+pub take_one_more : {A : Type 0} (xs : List A) (n : ℕ) (x : A) (rest : List A) → drop n xs ≡ x ∷ rest → take (n + 1) xs ≡ take n xs ++ x ∷ []
+take_one_more xs n x rest e = ap (λ m. take m xs) (add-one n) ∙ take_suc xs n x rest e
+
+pub drop_one_more : {A : Type 0} (xs : List A) (n : ℕ) (x : A) (rest : List A) → drop n xs ≡ x ∷ rest → drop (n + 1) xs ≡ rest
+drop_one_more xs n x rest e = ap (λ m. drop m xs) (add-one n) ∙ drop_suc xs n x rest e

@@ -29,6 +29,11 @@ abbrev pub or_none : Option (List Value) → List Value
 or_none None = []
 or_none (Some items) = items
 
+-- how many items there are
+abbrev pub count_of : Option (List Value) → Option ℕ
+count_of None = None
+count_of (Some items) = Some (length items)
+
 -- the lowest of a stack, of which the top comes first
 abbrev pub lowest : {A : Type 0} → ℕ → List A → List A
 lowest count stack = drop (length stack - count) stack

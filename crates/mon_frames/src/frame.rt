@@ -1,11 +1,12 @@
-ghost use Rattle.std.specs.Prelude.{◌≡◌, ◌-◌, ◌<◌, ◌++◌, [], ◌∷◌, length, map, replicate, Some, None, slice_get, slice_set, OnOk, OnErr, OnSome, IfOk, MatchOption};
+ghost use Rattle.std.specs.Prelude.{◌≡◌, ◌-◌, ◌<◌, ◌≤◌, ◌++◌, [], ◌∷◌, length, map, reverse, take, drop, replicate, Some, None, slice_get, slice_set, OnOk, OnErr, OnSome, IfOk, MatchOption};
 ghost use Rattle.std.specs.Option.{option_copied};
 ghost use Rattle.mon_frames.specs.Items.{lowest};
 ghost use Rattle.mon_frames.specs.Calls.{called};
 
 use crate::handling::Handling;
 use mon_code::Code;
-use mon_values::value::Value;
+use mon_values::value::{Tuple, Value};
+use sqlite_items::Items;
 use std::alloc::{AllocError, Global};
 use std::marker::Model;
 
@@ -52,6 +53,37 @@ impl Operands {
         ensures { MatchOption result ((self.old ≡ []) × (self.new ≡ [])) (λ top. self.old ≡ top ∷ self.new) }
     {
         self.items.pop()
+    }
+
+    /// How many values stand on it.
+    pub fn len(&self) -> usize
+        ensures { result ≡ length self.now }
+    {
+        self.items.as_slice().len()
+    }
+
+    /// The top value, if there is one.
+    pub fn top(&self) -> Option<&Value>
+        ensures { MatchOption result (self.now ≡ []) (λ top. self.now ≡ top.now ∷ drop 1 self.now) }
+    {
+        self.items.as_slice().last()
+    }
+
+    /// Takes the topmost values off, so many; the lowest of them comes first.
+    pub fn take_top(&mut self, alloc: Global, count: usize) -> Result<Tuple, AllocError>
+        requires { count ≤ length self.old }
+        ensures taken { IfOk result (λ taken. taken ≡ reverse (take count self.old)) }
+        ensures left { OnOk result (self.new ≡ drop count self.old) }
+    {
+        let mut taken = Vec::new(alloc);
+        for _turn in 0..count {
+            let Some(value) = self.pop() else {
+                unreachable!()
+            };
+            taken.push(value)?;
+        }
+        taken.reverse();
+        Ok(Items::from_vec(taken))
     }
 
     /// Takes values off the top until no more than so many are left.

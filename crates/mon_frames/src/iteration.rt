@@ -1,6 +1,6 @@
-ghost use Rattle.std.specs.Prelude.{◌≡◌, ◌-◌, ◌<◌, ◌^◌, map, slice_get, IfOk, OnSome};
+ghost use Rattle.std.specs.Prelude.{◌≡◌, ◌-◌, ◌<◌, ◌^◌, length, map, slice_get, IfOk, OnSome};
 ghost use Rattle.mon_values.specs.Ranges.{range_length};
-ghost use Rattle.mon_frames.specs.Items.{items_of, range_items, one_char, or_none};
+ghost use Rattle.mon_frames.specs.Items.{items_of, count_of, range_items, one_char, or_none};
 ghost use Rattle.mon_frames.specs.Answers.{GivesFirst};
 
 use mon_values::range::{range_item, range_len};
@@ -56,8 +56,26 @@ impl Iteration {
     }
 }
 
+/// How many items a value has, if it can be gone over.
+pub fn item_count(v: &Value) -> Option<u64>
+    ensures { result ≡ count_of (items_of v.now) }
+{
+    match v {
+        Value::Text(text) => Some(text.chars().len() as u64),
+        Value::Tuple(items) => Some(items.len() as u64),
+        Value::Range(start, stop, step) => Some(integer_count(*start, *stop, *step)),
+        _ => None,
+    }
+}
+
+fn integer_count(start: i64, stop: i64, step: i64) -> u64
+    ensures { result ≡ length (range_items start step 0 (range_length start stop step)) }
+{
+    range_len(start, stop, step)
+}
+
 /// The item of a value at a place, from 0, if there is one.
-fn item_at(alloc: Global, v: &Value, place: u64) -> Result<Option<Value>, AllocError>
+pub fn item_at(alloc: Global, v: &Value, place: u64) -> Result<Option<Value>, AllocError>
     ensures value { IfOk result (λ item. item ≡ slice_get (or_none (items_of v.now)) place) }
     ensures last { IfOk result (λ item. OnSome item (place < 2 ^ 64 - 1)) }
 {

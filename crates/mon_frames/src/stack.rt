@@ -95,6 +95,13 @@ impl Frames {
         self.calls[self.calls.len() - 1].origin
     }
 
+    /// The generator of this number, if there is one.
+    pub fn generator(&self, number: u32) -> Option<&Generator>
+        ensures { option_copied result ≡ slice_get self.now.generators number }
+    {
+        self.generators.get(number as usize)
+    }
+
     /// The last exception on the handling list of the innermost frame that has one there.
     pub fn handled(&self) -> Option<&Exc>
         ensures { option_copied result ≡ spec.handled_in self.now.calls }

@@ -5,7 +5,7 @@ ghost use Rattle.mon_values.specs.declared.value.Value.{Value as ValueOf};
 ghost use Rattle.mon_values.specs.declared.value.Value.TheVariants.{None as NoneValue};
 ghost use Rattle.mon_frames.specs.Views.{Takes};
 
-use crate::{FrameFault, Frames, Handling, Operands, Origin, handler_of};
+use crate::{FrameFault, Frames, Handling, Operands, Origin, handler_of, item_at, item_count};
 use mon_code::{Code, Handler, Location, Program};
 use mon_values::print::repr;
 use mon_values::text::Text;
@@ -187,6 +187,7 @@ fn lists_of_a_frame_are_cut(rt: HostRuntime) -> Result<(), Fail> {
     stack.push(Value::Int(1))?;
     stack.push(Value::Int(2))?;
     stack.push(Value::Int(3))?;
+    assert!(rt; stack.len() == 3 && matches!(stack.top(), Some(Value::Int(3))));
     stack.cut(2);
     assert!(rt;
         matches!(stack.pop(), Some(Value::Int(2))) && stack.pop().is_some() && stack.pop().is_none()
@@ -203,6 +204,21 @@ fn lists_of_a_frame_are_cut(rt: HostRuntime) -> Result<(), Fail> {
     handling.cut(1);
     assert!(rt; is_handled(handling.last(), Some(13)));
     assert!(rt; handling.pop().is_some() && handling.pop().is_none());
+    Ok(())
+}
+
+#[test]
+fn the_topmost_values_are_taken_in_order(rt: HostRuntime) -> Result<(), Fail> {
+    let alloc = rt.alloc();
+    let mut stack = Operands::new(alloc);
+    stack.push(Value::Int(1))?;
+    stack.push(Value::Int(2))?;
+    stack.push(Value::Int(3))?;
+    if stack.len() >= 2 {
+        let taken = Value::Tuple(stack.take_top(alloc, 2)?);
+        assert!(rt; prints_as(alloc, &taken, "(2, 3)")?);
+    }
+    assert!(rt; stack.len() == 1 && matches!(stack.top(), Some(Value::Int(1))));
     Ok(())
 }
 
@@ -240,7 +256,9 @@ fn values_are_gone_over(rt: HostRuntime) -> Result<(), Fail> {
     assert!(rt; gives(alloc, &mut frames, &pair(alloc)?, &["1", "None"])?);
     let falling = Value::Range(5, -5, -4);
     assert!(rt; gives(alloc, &mut frames, &falling, &["5", "1", "-3"])?);
-    assert!(rt; frames.iterate(&Value::None).is_err());
+    assert!(rt; frames.iterate(&Value::None).is_err() && frames.generator(0).is_none());
+    assert!(rt; item_count(&falling) == Some(3) && item_count(&Value::None).is_none());
+    assert!(rt; matches!(item_at(alloc, &falling, 1)?, Some(Value::Int(1))));
     Ok(())
 }
 
