@@ -6,6 +6,7 @@ use Rattle.std.proofs.Math.Bool.{or-true}
 use Rattle.std.proofs.lemmas.Bool.Decides.{nat_tests}
 use Rattle.mon_events.specs.declared.op.Op.{Op}
 use Rattle.mon_code.specs.declared.program.Code.{Code}
+use Rattle.mon_code.specs.declared.program.Handler.{Handler}
 use Rattle.mon_code.specs.declared.program.Location.{Location}
 use Rattle.mon_code.specs.Programs.{Parts, op_at, location_at}
 use Rattle.mon_code.specs.Checked.{IsChecked, IsCode, AllCodes, AllLocations, HasOp, catches_at, is_target, jumps_to, depth_in, table_of}
@@ -68,6 +69,20 @@ target_from bases first from (x ∷ ls) (suc i) l op e o j =
 
 pub target_at : (bases : List ℕ) (c : Code) (i : ℕ) (l : Location) (op : Op) → location_at c i ≡ Some l → op_at bases c.first i ≡ Some op → (effect_of op l.argument).jumps ≡ true → is_target bases c.first 0 c.locations l.argument ≡ true
 target_at bases c i l op e o j = target_from bases c.first 0 c.locations i l op e (ap (λ (n : ℕ). op_at bases c.first n) (omega arith) ∙ o) j
+
+-- where an exception goes there is a target
+caught_from : (bases : List ℕ) (first from : ℕ) (ls : List Location) (i : ℕ) (l : Location) (h : Handler) → slice_get ls i ≡ Some l → l.handler ≡ Some h → is_target bases first from ls h.to ≡ true
+caught_from bases first from [] i l h e o = absurd (none-some l e)
+caught_from bases first from (x ∷ ls) zero l h e o =
+    let same : (h.to == h.to) ≡ true = grind (arith, nat_tests) in
+    let catches : catches_at x.handler h.to ≡ true = ap (λ (y : Location). catches_at y.handler h.to) (same_Some x l e) ∙ ap (λ (y : Option Handler). catches_at y h.to) o ∙ same in
+    ap (λ (b : Bool). jumps_to (op_at bases first from) x.argument h.to || (b || is_target bases first (from + 1) ls h.to)) catches ∙ or-true (jumps_to (op_at bases first from) x.argument h.to)
+caught_from bases first from (x ∷ ls) (suc i) l h e o =
+    ap (λ (b : Bool). jumps_to (op_at bases first from) x.argument h.to || (catches_at x.handler h.to || b)) (caught_from bases first (from + 1) ls i l h e o)
+    ∙ ap (λ (b : Bool). jumps_to (op_at bases first from) x.argument h.to || b) (or-true (catches_at x.handler h.to)) ∙ or-true (jumps_to (op_at bases first from) x.argument h.to)
+
+pub caught_at : (bases : List ℕ) (c : Code) (i : ℕ) (l : Location) (h : Handler) → location_at c i ≡ Some l → l.handler ≡ Some h → is_target bases c.first 0 c.locations h.to ≡ true
+caught_at bases c i l h e o = caught_from bases c.first 0 c.locations i l h e o
 
 -- depths are recorded where there is a location
 pub record FoundAt (c : Code) (at values exceptions : ℕ) : Type 0 where

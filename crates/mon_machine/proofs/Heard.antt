@@ -1,6 +1,6 @@
 -- What is heard of a step.
-use Rattle.std.proofs.Common.{◌≡◌, ◌≢◌, ℕ, zero, suc, ◌+◌, ◌*◌, ◌^◌, ◌<◌, ◌==◌, Bool, true, false, ◌&&◌, List, [], ◌∷◌, ◌++◌, length, take, refl, sym, ap, subst, ◌∙◌, arith, add-one, append_assoc, append-nil}
-use Rattle.std.specs.Prelude.{if◌then◌else◌, Option, Some, None, slice_get}
+use Rattle.std.proofs.Common.{◌≡◌, ◌≢◌, ℕ, zero, suc, ◌+◌, ◌^◌, ◌<◌, ◌==◌, Bool, true, false, ◌&&◌, List, [], ◌∷◌, ◌++◌, length, take, refl, sym, ap, subst, ◌∙◌, arith, add-one, append_assoc, append-nil}
+use Rattle.std.specs.Prelude.{if◌then◌else◌, Option, Some, None}
 use Rattle.std.specs.List.{AllByRecursion}
 use Rattle.std.specs.Int.{bit_at}
 use Rattle.std.proofs.lemmas.Nat.Bits.{bit_at-pow_same, bit_at-pow_other, bit_at_ones}
@@ -20,8 +20,17 @@ use Rattle.mon_events.specs.declared.event.Event.{Event}
 use Rattle.mon_events.specs.declared.op.Op.{Op}
 use Rattle.mon_events.specs.Ops.{main_event}
 use Rattle.mon_frames.specs.declared.frame.Frame.{Frame}
-use Rattle.mon_machine.specs.declared.mode.Mode.{Mode}
-use Rattle.mon_machine.specs.Step.{State, step, goes, executed, effect, line_after, line_events, happens, main_events, raise_events, unwound}
+use Rattle.mon_frames.specs.declared.call.Call.{Call}
+use Rattle.mon_frames.specs.declared.call.Origin.{Origin}
+use Rattle.mon_frames.specs.declared.call.Origin.TheVariants.{Plain, Generator as Generated}
+use Rattle.mon_frames.specs.Calls.{handler_due}
+use Rattle.mon_frames.specs.Views.{FramesView, without_top}
+use Rattle.mon_code.specs.declared.program.Handler.{Handler}
+use Rattle.mon_machine.specs.declared.mode.Ending.{Ending}
+use Rattle.mon_machine.specs.State.{State, Move, goes, with_frame}
+use Rattle.mon_machine.specs.Moves.{effect}
+use Rattle.mon_machine.specs.Events.{Shown, shown, of_call, happens, offset, line_events, main_events, ancillary_events, raise_events, instruction_events}
+use Rattle.mon_machine.specs.Step.{step, executed, with_line, goes_out, unwinds_from, unwinds}
 use Rattle.mon_machine.proofs.Runs.{stands_still, nothing_happens}
 use Rattle.mon_machine.specs.Run.{after_steps, steps_done, is_heard, records_for, heard_one, heard, records_of}
 use Rattle.mon_machine.specs.Serial.{wants_line, line_records, WantsLine, HasLineWants}
@@ -87,29 +96,29 @@ enabled_marked b tool number l w m t h =
     ∙ ap (λ (n : ℕ). is_bit n t) want ∙ pow_bit tool t
 
 -- a board that wants LINE for the tool alone hears an event as the tool does
-heard_kind : (p : Parts) (tool : ℕ) (b : Board) (k : ℕ) (c : Code) (h : Happening) → HasLineWants p tool b → slice_get p.codes k ≡ Some c → MarksLine k c h → (t : ℕ) → t < 6 → is_heard b h.kind t ≡ wants_line tool h.kind t
-heard_kind p tool b k c h wants found marks t within = pick (is_line_kind h.kind) refl
+heard_kind : (p : Parts) (tool : ℕ) (b : Board) (h : Happening) → HasLineWants p tool b → MarksLine p h → (t : ℕ) → t < 6 → is_heard b h.kind t ≡ wants_line tool h.kind t
+heard_kind p tool b h wants marks t within = pick (is_line_kind h.kind) refl
   where
     other : (kind : Kind) → is_line_kind kind ≡ false → is_heard b kind t ≡ wants_line tool kind t
     other (Local location slot) e = ap (λ (v : Bool). v && is_enabled (cell_at b location) slot t) e ∙ sym (ap (λ (v : Bool). v && t == tool) e)
     other Global e = refl
     other (Ancillary location) e = refl
 
-    at : AtMarked k c h → is_heard b h.kind t ≡ wants_line tool h.kind t
+    at : AtMarked p h → is_heard b h.kind t ≡ wants_line tool h.kind t
     at m =
         subst (λ (kind : Kind). is_heard b kind t ≡ wants_line tool kind t) (sym m.kind)
-        (enabled_marked b tool (c.first + m.index) m.location (wants.cells k m.index c m.location found m.stands) m.marked t within)
+        (enabled_marked b tool (m.code.first + m.index) m.location (wants.cells h.code m.index m.code m.location m.found m.stands) m.marked t within)
 
     pick : (v : Bool) → is_line_kind h.kind ≡ v → is_heard b h.kind t ≡ wants_line tool h.kind t
     pick true e = at (marks.marked (marks.alone e))
     pick false e = other h.kind e
 
-pub heard_marked : (p : Parts) (tool : ℕ) (b : Board) (k : ℕ) (c : Code) (i : ℕ) (hs : List Happening) → HasLineWants p tool b → slice_get p.codes k ≡ Some c → AllByRecursion (MarksLine k c) hs → heard (is_heard b) i hs ≡ heard (wants_line tool) i hs
-heard_marked p tool b k c i hs wants found marks = heard_same (is_heard b) (wants_line tool) i hs (each hs marks)
+pub heard_marked : (p : Parts) (tool : ℕ) (b : Board) (i : ℕ) (hs : List Happening) → HasLineWants p tool b → AllByRecursion (MarksLine p) hs → heard (is_heard b) i hs ≡ heard (wants_line tool) i hs
+heard_marked p tool b i hs wants marks = heard_same (is_heard b) (wants_line tool) i hs (each hs marks)
   where
-    each : (hs : List Happening) → AllByRecursion (MarksLine k c) hs → AllByRecursion (λ (h : Happening). (t : ℕ) → t < 6 → is_heard b h.kind t ≡ wants_line tool h.kind t) hs
+    each : (hs : List Happening) → AllByRecursion (MarksLine p) hs → AllByRecursion (λ (h : Happening). (t : ℕ) → t < 6 → is_heard b h.kind t ≡ wants_line tool h.kind t) hs
     each [] m = tt
-    each (h ∷ hs) m = (heard_kind p tool b k c h wants found m.0, each hs m.1)
+    each (h ∷ hs) m = (heard_kind p tool b h wants m.0, each hs m.1)
 
 at_nothing : (b : Board) (at : ℕ) → after b (take at []) ≡ b
 at_nothing b zero = refl
@@ -208,36 +217,66 @@ unheard hears i (h ∷ hs) alone others =
     let here : heard_one hears i h ≡ [] = records_for_silent (hears h.kind) (record_of i h) 6 (λ t. alone.others h.kind t others.0) in
     rw (here, unheard hears i hs alone others.1) refl
 
-main_other : (p : Parts) (op : Op) (event : Option Event) (location : ℕ) (f : Frame) (next : State) → AllByRecursion IsOtherKind (main_events p op event location f next)
+main_other : (event : Option Event) (s : Option Shown) (location : ℕ) (f : Frame) → AllByRecursion IsOtherKind (main_events event s location f)
 unfolding IsOtherKind
-main_other p op None location f next = tt
-main_other p Op.Resume (Some event) location f next = (refl, tt)
-main_other p _ (Some event) location f next = (refl, tt)
+main_other None s location f = tt
+main_other (Some event) None location f = tt
+main_other (Some event) (Some s) location f = (refl, tt)
 
-raise_other : (p : Parts) (f : Frame) (mode : Mode) → AllByRecursion IsOtherKind (raise_events p f mode)
+ancillary_other : (event : Option Event) (s : Shown) (location : ℕ) (f : Frame) → AllByRecursion IsOtherKind (ancillary_events event s location f)
 unfolding IsOtherKind
-raise_other p f Mode.Run = tt
-raise_other p f (Mode.Unwind e) = (refl, tt)
-raise_other p f (Mode.Ended outcome) = tt
-raise_other p f Mode.Stuck = tt
+ancillary_other None s location f = tt
+ancillary_other (Some event) s location f = (refl, tt)
+
+raise_other : (p : Parts) (f : Frame) (ending : Ending) → AllByRecursion IsOtherKind (raise_events p f ending)
+unfolding IsOtherKind
+raise_other p f Ending.Continues = tt
+raise_other p f (Ending.Raises e) = (refl, tt)
+raise_other p f (Ending.Reraises e) = (refl, tt)
+raise_other p f (Ending.Returns x) = tt
+raise_other p f Ending.Misses = tt
 
 -- of an instruction nothing is heard but its LINE events
-pub heard_executed : (hears : Kind → ℕ → Bool) (i : ℕ) (p : Parts) (c : Code) (op : Op) (l : Location) (f : Frame) → LineAlone hears → heard hears i (executed p c op l f).events ≡ heard hears i (line_events f (c.first + f.index) l.line f.line)
+pub heard_instruction : (hears : Kind → ℕ → Bool) (i : ℕ) (p : Parts) (op : Op) (n location : ℕ) (line : Option ℕ) (f : Frame) (m : Move) → LineAlone hears
+    → heard hears i (instruction_events p op n location line f m) ≡ heard hears i (line_events f location line f.line)
 unfolding IsOtherKind
-heard_executed hears i p c op l f alone =
-    let next = effect c op l.argument (record f { line = line_after l.line f.line }) in
-    let lines = line_events f (c.first + f.index) l.line f.line in
-    let instruction = happens Event.Instruction (Local (c.first + f.index) Slot.Instruction) f (2 * f.index) in
-    let main = main_events p op (main_event op l.argument) (c.first + f.index) f next in
-    let raised = raise_events p f next.mode in
-    let none : heard hears i (instruction ∷ (main ++ raised)) ≡ []
-    = unheard hears i (instruction ∷ (main ++ raised)) alone (refl, all_append IsOtherKind main raised (main_other p op (main_event op l.argument) (c.first + f.index) f next) (raise_other p f next.mode)) in
-    heard_append hears i lines (instruction ∷ (main ++ raised)) ∙ ap (λ (r : List Record). heard hears i lines ++ r) none ∙ append-nil (heard hears i lines)
+heard_instruction hears i p op n location line f m alone =
+    let lines = line_events f location line f.line in
+    let instruction = happens Event.Instruction (Local location Slot.Instruction) f (offset f) in
+    let main = main_events (main_event op n) (shown p op n f m.frames.calls) location f in
+    let ancillary = ancillary_events m.ancillary (of_call p n f.stack) location f in
+    let raised = raise_events p f m.ending in
+    let none : heard hears i (instruction ∷ (main ++ (ancillary ++ raised))) ≡ []
+    = unheard hears i (instruction ∷ (main ++ (ancillary ++ raised))) alone (
+      refl,
+      all_append IsOtherKind main (ancillary ++ raised) (main_other (main_event op n) (shown p op n f m.frames.calls) location f)
+          (all_append IsOtherKind ancillary raised (ancillary_other m.ancillary (of_call p n f.stack) location f) (raise_other p f m.ending)),
+    ) in
+    heard_append hears i lines (instruction ∷ (main ++ (ancillary ++ raised))) ∙ ap (λ (r : List Record). heard hears i lines ++ r) none ∙ append-nil (heard hears i lines)
 
--- nor of an exception that leaves the frame
-pub heard_unwound : (hears : Kind → ℕ → Bool) (i : ℕ) (p : Parts) (f : Frame) (e : Exc) → LineAlone hears → heard hears i (unwound p f e).events ≡ []
+pub heard_executed : (hears : Kind → ℕ → Bool) (i : ℕ) (p : Parts) (c : Code) (op : Op) (l : Location) (f : Frame) (v : FramesView) → LineAlone hears
+    → heard hears i (executed p c op l f v).events ≡ heard hears i (line_events f (c.first + f.index) l.line f.line)
+heard_executed hears i p c op l f v alone = heard_instruction hears i p op l.argument (c.first + f.index) l.line f (effect p c op l.argument (with_line l.line f) (with_frame v (with_line l.line f))) alone
+
+goes_out_other : (p : Parts) (v : FramesView) (calls : List Call) (e : Exc) (f : Frame) → AllByRecursion IsOtherKind (goes_out p v calls e f).events
 unfolding IsOtherKind
-heard_unwound hears i p f e alone = unheard hears i (unwound p f e).events alone (refl, tt)
+goes_out_other p v [] e f = (refl, tt)
+goes_out_other p v (call ∷ calls) e f = (refl, (refl, tt))
+
+unwinds_from_other : (p : Parts) (v : FramesView) (o : Origin) (e : Exc) (f : Frame) (h : Option Handler) → AllByRecursion IsOtherKind (unwinds_from p v o e f h).events
+unfolding IsOtherKind
+unwinds_from_other p v o e f (Some h) = (refl, tt)
+unwinds_from_other p v Plain e f None = goes_out_other p (without_top v) (without_top v).calls e f
+unwinds_from_other p v (Generated number by) e f None = tt
+
+unwinds_other : (p : Parts) (v : FramesView) (e : Exc) (calls : List Call) → AllByRecursion IsOtherKind (unwinds p v e calls).events
+unfolding IsOtherKind
+unwinds_other p v e [] = tt
+unwinds_other p v e (call ∷ calls) = unwinds_from_other p v call.origin e call.frame (handler_due p call.frame.code call.frame.index)
+
+-- nor of an exception that goes on
+pub heard_unwinds : (hears : Kind → ℕ → Bool) (i : ℕ) (p : Parts) (v : FramesView) (e : Exc) (calls : List Call) → LineAlone hears → heard hears i (unwinds p v e calls).events ≡ []
+heard_unwinds hears i p v e calls alone = unheard hears i (unwinds p v e calls).events alone (unwinds_other p v e calls)
 
 -- of these no more is read than the bits for LINE of their location
 pub line_events_same : (a b : Kind → ℕ → Bool) (i : ℕ) (f : Frame) (location : ℕ) (line last : Option ℕ) → ((t : ℕ) → t < 6 → a (Local location Slot.Line) t ≡ b (Local location Slot.Line) t)

@@ -1,28 +1,29 @@
--- What a step keeps of a state: where it is in its code, with how much, and behind which line.
-use Rattle.std.proofs.Common.{◌≡◌, ℕ, zero, suc, ◌+◌, ◌-◌, ◌<◌, ◌≤◌, Bool, true, false, ◌⊎◌, inl, inr, List, [], ◌∷◌, length, refl, sym, ap, subst, ◌∙◌, arith, nat_lt}
-use Rattle.std.specs.Prelude.{Option, Some, None, Result, Ok, Err, slice_get, slice_set, IsTrue, if◌then◌else◌}
-use Rattle.std.proofs.lemmas.List.{length-set}
-use Rattle.std.proofs.lemmas.Bool.{lt-ltb}
-use Rattle.mon_values.specs.declared.value.Value.{Value}
-use Rattle.mon_values.specs.declared.fault.Trouble.{Trouble}
-use Rattle.mon_values.specs.declared.operator.ArithOp.{ArithOp}
-use Rattle.mon_values.specs.declared.operator.CmpOp.{CmpOp}
-use Rattle.mon_values.specs.Arithmetic.{arith_of}
-use Rattle.mon_values.specs.Comparing.{compare_of}
-use Rattle.mon_values.specs.Truth.{truth}
+-- How the frames of a thread stand: the top one before an instruction or where an exception was raised, the others in calls.
+use Rattle.std.proofs.Common.{◌≡◌, ℕ, ◌+◌, ◌-◌, ◌≤◌, Bool, true, false, ◌⊎◌, inl, inr, List, [], ◌∷◌, length, map, replicate, refl, sym, ap, subst, ◌∙◌, arith, length-append, length-drop}
+use Rattle.std.specs.Prelude.{Option, Some, None, slice_get}
+use Rattle.std.proofs.lemmas.List.{length-map, length-replicate}
+use Rattle.mon_values.specs.declared.value.Value.{Value, Exc as Raised-value}
+use Rattle.mon_values.specs.declared.value.Exc.{Exc}
 use Rattle.mon_events.specs.declared.op.Op.{Op}
 use Rattle.mon_code.specs.declared.program.Code.{Code}
+use Rattle.mon_code.specs.declared.program.Handler.{Handler}
 use Rattle.mon_code.specs.declared.program.Location.{Location}
 use Rattle.mon_code.specs.Programs.{Parts, op_at, location_at}
-use Rattle.mon_code.specs.Operators.{arith_op_of, cmp_op_of}
-use Rattle.mon_code.specs.Checked.{IsLocation, is_target, table_of}
-use Rattle.mon_code.specs.Depths.{Records}
-use Rattle.mon_code.specs.Effects.{effect_of}
+use Rattle.mon_code.specs.Checked.{IsCode, IsLocation, is_target, table_of}
+use Rattle.mon_code.specs.Depths.{Table, Records, LandsIf, Catches}
+use Rattle.mon_code.specs.Effects.{Effect, effect_of}
 use Rattle.mon_frames.specs.declared.frame.Frame.{Frame}
+use Rattle.mon_frames.specs.declared.call.Call.{Call}
+use Rattle.mon_frames.specs.declared.call.Origin.{Origin}
+use Rattle.mon_frames.specs.declared.call.Origin.TheVariants.{Plain, Generator as Generated}
+use Rattle.mon_frames.specs.Calls.{called}
+use Rattle.mon_frames.specs.Items.{lowest}
+use Rattle.mon_frames.specs.Views.{FramesView}
 use Rattle.mon_machine.specs.declared.mode.Mode.{Mode}
-use Rattle.mon_machine.specs.Laws.{runs}
-use Rattle.mon_machine.specs.Step.{State, executed, effect, ends, goes_on, gives, load_const, load_fast, or_empty, store_fast, on_two, binary_op, as_value, compare_op, pop_jump_if_false, return_value, line_after}
-use Rattle.mon_machine.proofs.Fitting.{line_before, line_before_next, target_at}
+use Rattle.mon_machine.specs.State.{State}
+use Rattle.mon_machine.specs.Step.{caught_in}
+use Rattle.mon_machine.proofs.Depths.{Same, Goes, Jumps, Stays, Ready}
+use Rattle.mon_machine.proofs.Fitting.{line_before, line_before_next, target_at, caught_at}
 
 -- the last line is that of the instruction before, where this has one
 abbrev pub Follows : Option (Option ℕ) → Option ℕ → Type 0
@@ -30,154 +31,185 @@ Follows None last = Unit {0}
 Follows (Some None) last = Unit {0}
 Follows (Some (Some line)) last = last ≡ Some line
 
--- a frame at a location of code k
-pub record IsAt (bases : List ℕ) (c : Code) (k : ℕ) (f : Frame) : Type 0 where
-  pub code : f.code ≡ k
-  pub handling : ℕ
-  pub depth : Records (table_of c.locations) f.index (length f.stack) handling
+-- a frame is one of this code
+pub record IsOf (p : Parts) (c : Code) (f : Frame) : Type 0 where
+  pub found : slice_get p.codes f.code ≡ Some c
   pub locals : length f.locals ≡ length c.locals
-  pub line : (is_target bases c.first 0 c.locations f.index ≡ true) ⊎ Follows (line_before None c.locations f.index) f.line
 
-abbrev pub IsIn : List ℕ → Code → ℕ → Frame → Mode → Type 0
-IsIn bases c k f Mode.Run = IsAt bases c k f
-IsIn bases c k f (Mode.Unwind e) = Unit {0}
-IsIn bases c k f (Mode.Ended outcome) = Unit {0}
-IsIn bases c k f Mode.Stuck = ⊥
+-- it is before an instruction
+pub record IsAt (p : Parts) (f : Frame) : Type 0 where
+  pub code : Code
+  pub is_of : IsOf p code f
+  pub depth : Records (table_of code.locations) f.index (length f.stack) (length f.handling)
+  pub line : (is_target p.bases code.first 0 code.locations f.index ≡ true) ⊎ Follows (line_before None code.locations f.index) f.line
 
-abbrev pub Keeps : List ℕ → Code → ℕ → State → Type 0
-Keeps bases c k s = IsIn bases c k s.frame s.mode
+-- an exception was raised at its instruction
+pub record IsThrown (p : Parts) (f : Frame) : Type 0 where
+  pub code : Code
+  pub is_of : IsOf p code f
+  pub location : Location
+  pub stands : location_at code f.index ≡ Some location
+  pub caught : Catches (table_of code.locations) location.handler (length f.stack) (length f.handling)
 
--- a frame whose instruction at index i is executed, its line being taken
-record Works (c : Code) (k i : ℕ) (l : Location) (f : Frame) : Type 0 where
-  stands : location_at c i ≡ Some l
-  code : f.code ≡ k
-  index : f.index ≡ i
-  depth : length f.stack ≡ l.stack
-  locals : length f.locals ≡ length c.locals
-  line : Follows (Some l.line) f.line
+-- its call goes on: it gets a value, or an exception
+pub record Waits (p : Parts) (f : Frame) : Type 0 where
+  pub code : Code
+  pub is_of : IsOf p code f
+  pub location : Location
+  pub stands : location_at code f.index ≡ Some location
+  pub next : Records (table_of code.locations) (f.index + 1) (1 + length f.stack) (length f.handling)
+  pub caught : Catches (table_of code.locations) location.handler (length f.stack) (length f.handling)
+  pub line : Follows (Some location.line) f.line
 
--- what is known of an instruction
-abbrev Known : List ℕ → Code → ℕ → Op → Location → Type 0
-Known bases c i op l = IsLocation bases c i (line_before None c.locations i) op l
+abbrev pub IsPlain : Origin → Type 0
+IsPlain Plain = Unit {0}
+IsPlain (Generated number by) = ⊥
 
--- on to the next index
-next : (bases : List ℕ) (c : Code) (k i : ℕ) (op : Op) (l : Location) (f : Frame) (stack : List Value) → Works c k i l f → Known bases c i op l → IsTrue (effect_of op l.argument).goes_on
-    → length stack ≡ (effect_of op l.argument).puts + (l.stack - (effect_of op l.argument).takes) → Keeps bases c k (goes_on f stack)
-next bases c k i op l f stack w known goes len =
-    let there : i + 1 ≡ f.index + 1 = omega (arith, w.index) in
-    let handling : ℕ = (effect_of op l.argument).adds + (l.handling - (effect_of op l.argument).drops) in
-    let before : line_before None c.locations (f.index + 1) ≡ Some l.line = ap (λ (n : ℕ). line_before None c.locations n) (sym there) ∙ line_before_next None c.locations i l w.stands in
+abbrev pub Waiting : Parts → List Call → Type 0
+Waiting p [] = Unit {0}
+Waiting p (call ∷ calls) = IsPlain call.origin × Waits p call.frame × Waiting p calls
+
+-- the top frame is such, and the others wait
+abbrev pub HasTop : Parts → (Frame → Type 0) → List Call → Type 0
+HasTop p Is [] = ⊥
+HasTop p Is (call ∷ calls) = IsPlain call.origin × Is call.frame × Waiting p calls
+
+abbrev pub IsIn : Parts → FramesView → Mode → Type 0
+IsIn p v Mode.Run = HasTop p (IsAt p) v.calls
+IsIn p v (Mode.Unwind e) = HasTop p (IsThrown p) v.calls
+IsIn p v (Mode.Ended outcome) = Unit {0}
+IsIn p v Mode.Stuck = ⊥
+
+-- the states of a thread without generators
+pub record Keeps (p : Parts) (s : State) : Type 0 where
+  pub generators : s.frames.generators ≡ []
+  pub stands : IsIn p s.frames s.mode
+
+-- a frame whose instruction is executed, its line being taken
+pub record Works (p : Parts) (c : Code) (op : Op) (l : Location) (f : Frame) : Type 0 where
+  pub is_of : IsOf p c f
+  pub stands : location_at c f.index ≡ Some l
+  pub has_op : op_at p.bases c.first f.index ≡ Some op
+  pub known : IsLocation p.bases c f.index (line_before None c.locations f.index) op l
+  pub stack : length f.stack ≡ l.stack
+  pub handling : length f.handling ≡ l.handling
+  pub line : Follows (Some l.line) f.line
+
+pub ready : (p : Parts) (c : Code) (op : Op) (l : Location) (f : Frame) → Works p c op l f → Ready (effect_of op l.argument) f
+ready p c op l f w = record { takes = omega (arith, w.stack, w.known.fits.has); drops = omega (arith, w.handling, w.known.fits.holds) }
+
+same_of : (p : Parts) (c : Code) (f g : Frame) → IsOf p c f → Same f g → IsOf p c g
+same_of p c f g i s = record { found = ap (λ (n : ℕ). slice_get p.codes n) s.code ∙ i.found; locals = s.locals ∙ i.locals }
+
+-- depths that are recorded are those of a frame
+recorded : (t : Table) (at at' stack stack' handling handling' : ℕ) → Records t at stack handling → at' ≡ at → stack' ≡ stack → handling' ≡ handling → Records t at' stack' handling'
+recorded t at at' stack stack' handling handling' r a s h =
+    subst (λ (n : ℕ). Records t n stack' handling') (sym a) (subst (λ (n : ℕ). Records t at n handling') (sym s) (subst (λ (n : ℕ). Records t at stack n) (sym h) r))
+
+-- a handler that has enough of what it keeps has it of more
+catches_more : (t : Table) (handler : Option Handler) (stack stack' handling handling' : ℕ) → Catches t handler stack handling → stack ≤ stack' → handling ≤ handling' → Catches t handler stack' handling'
+catches_more t None stack stack' handling handling' c s h = tt
+catches_more t (Some handler) stack stack' handling handling' c s h =
+    let values : handler.stack ≤ stack' = omega (arith, c.1, s) in
+    let exceptions : handler.handling ≤ handling' = omega (arith, c.2, h) in
+    (c.0, values, exceptions)
+
+-- behind an instruction
+follows_next : (c : Code) (i at : ℕ) (l : Location) (line : Option ℕ) → location_at c i ≡ Some l → at ≡ i + 1 → Follows (Some l.line) line → Follows (line_before None c.locations at) line
+follows_next c i at l line stands there follows =
+    let before : line_before None c.locations at ≡ Some l.line = ap (λ (n : ℕ). line_before None c.locations n) there ∙ line_before_next None c.locations i l stands in
+    subst (λ (o : Option (Option ℕ)). Follows o line) (sym before) follows
+
+pub goes_at : (p : Parts) (c : Code) (op : Op) (l : Location) (f g : Frame) → Works p c op l f → Goes (effect_of op l.argument) f g → IsAt p g
+goes_at p c op l f g w m =
+    let e : Effect = effect_of op l.argument in
     record {
-      code = w.code;
-      handling = handling;
-      depth = subst (λ (n : ℕ). Records (table_of c.locations) n (length stack) handling) there (subst (λ (n : ℕ). Records (table_of c.locations) (i + 1) n handling) (sym len) (known.fits.next goes));
-      locals = w.locals;
-      line = inr (subst (λ (o : Option (Option ℕ)). Follows o f.line) (sym before) w.line);
+      code = c;
+      is_of = same_of p c f g w.is_of m.arrives.same;
+      depth = recorded (table_of c.locations) (f.index + 1) g.index (e.puts + (l.stack - e.takes)) (length g.stack) (e.adds + (l.handling - e.drops)) (length g.handling) (w.known.fits.next m.may) m.arrives.index
+          (m.arrives.stack ∙ ap (λ (n : ℕ). e.puts + (n - e.takes)) w.stack) (m.arrives.handling ∙ ap (λ (n : ℕ). e.adds + (n - e.drops)) w.handling);
+      line = inr (follows_next c f.index g.index l g.line w.stands m.arrives.index (subst (λ (o : Option ℕ). Follows (Some l.line) o) (sym m.arrives.same.line) w.line));
     }
 
--- a jump
-jump : (bases : List ℕ) (c : Code) (k i handling : ℕ) (op : Op) (l : Location) (f : Frame) (stack : List Value) → Works c k i l f → op_at bases c.first i ≡ Some op → (effect_of op l.argument).jumps ≡ true
-    → Records (table_of c.locations) l.argument (length stack) handling → Keeps bases c k (ends (record f { index = l.argument; stack = stack }) Mode.Run)
-jump bases c k i handling op l f stack w o jumps lands = record { code = w.code; handling = handling; depth = lands; locals = w.locals; line = inl (target_at bases c i l op w.stands o jumps) }
+lands : (t : Table) (b : Bool) (to stack handling : ℕ) → b ≡ true → LandsIf t b to stack handling → Records t to stack handling
+lands t true to stack handling e l = l.1
+lands t false to stack handling e l = absurd cc
 
-given : (bases : List ℕ) (c : Code) (k : ℕ) (f : Frame) (rest : List Value) (r : Result Value Trouble) → ((v : Value) → Keeps bases c k (goes_on f (v ∷ rest))) → Keeps bases c k (gives f rest r)
-given bases c k f rest (Ok v) each = each v
-given bases c k f rest (Err t) each = tt
+pub jumps_at : (p : Parts) (c : Code) (op : Op) (l : Location) (f g : Frame) → Works p c op l f → Jumps (effect_of op l.argument) l.argument f g → IsAt p g
+jumps_at p c op l f g w m =
+    let e : Effect = effect_of op l.argument in
+    record {
+      code = c;
+      is_of = same_of p c f g w.is_of m.arrives.same;
+      depth = recorded (table_of c.locations) l.argument g.index (e.carries + (l.stack - e.takes)) (length g.stack) (e.adds + (l.handling - e.drops)) (length g.handling)
+          (lands (table_of c.locations) e.jumps l.argument (e.carries + (l.stack - e.takes)) (e.adds + (l.handling - e.drops)) m.may w.known.fits.jumps) m.arrives.index
+          (m.arrives.stack ∙ ap (λ (n : ℕ). e.carries + (n - e.takes)) w.stack) (m.arrives.handling ∙ ap (λ (n : ℕ). e.adds + (n - e.drops)) w.handling);
+      line = inl (ap (λ (n : ℕ). is_target p.bases c.first 0 c.locations n) m.arrives.index ∙ target_at p.bases c f.index l op w.stands w.has_op m.may);
+    }
 
-two : (bases : List ℕ) (c : Code) (k : ℕ) (f : Frame) (op : Value → Value → Result Value Trouble) (stack : List Value) → 2 ≤ length stack
-    → ((v : Value) (rest : List Value) → length rest + 2 ≡ length stack → Keeps bases c k (goes_on f (v ∷ rest))) → Keeps bases c k (on_two op f stack)
-two bases c k f op [] has each = absurd (omega arith)
-two bases c k f op (b ∷ []) has each = absurd (omega arith)
-two bases c k f op (b ∷ a ∷ rest) has each = given bases c k f rest (op a b) (λ v. each v rest (omega arith))
+pub stays_at : (p : Parts) (c : Code) (op : Op) (l : Location) (f g : Frame) → Works p c op l f → Stays (effect_of op l.argument) f g → IsThrown p g
+stays_at p c op l f g w m =
+    let e : Effect = effect_of op l.argument in
+    record {
+      code = c;
+      is_of = same_of p c f g w.is_of m.same;
+      location = l;
+      stands = ap (λ (n : ℕ). location_at c n) m.index ∙ w.stands;
+      caught = catches_more (table_of c.locations) l.handler (l.stack - e.takes) (length g.stack) (l.handling - e.drops) (length g.handling) w.known.fits.caught (omega (arith, m.stack, w.stack)) (omega (arith, m.handling, w.handling));
+    }
 
-is_arith : (n : ℕ) → n < 5 → (op : ArithOp) × (arith_op_of n ≡ Some op)
-is_arith zero h = (ArithOp.Add, refl)
-is_arith (suc zero) h = (ArithOp.Sub, refl)
-is_arith (suc (suc zero)) h = (ArithOp.Mul, refl)
-is_arith (suc (suc (suc zero))) h = (ArithOp.FloorDiv, refl)
-is_arith (suc (suc (suc (suc zero)))) h = (ArithOp.Mod, refl)
-is_arith (suc (suc (suc (suc (suc n))))) h = absurd (omega arith)
+-- a call, its operands being taken
+pub waits_at : (p : Parts) (c : Code) (l : Location) (f : Frame) (rest : List Value) → Works p c Op.Call l f → length rest ≡ length f.stack - (1 + l.argument) → Waits p (record f { stack = rest })
+waits_at p c l f rest w e =
+    let left : l.stack - (1 + l.argument) ≡ length rest = omega (arith, e, w.stack) in
+    let held : l.handling - 0 ≡ length f.handling = omega (arith, w.handling) in
+    record {
+      code = c;
+      is_of = record { found = w.is_of.found; locals = w.is_of.locals };
+      location = l;
+      stands = w.stands;
+      next = recorded (table_of c.locations) (f.index + 1) (f.index + 1) (1 + (l.stack - (1 + l.argument))) (1 + length rest) (0 + (l.handling - 0)) (length f.handling) (w.known.fits.next refl) refl (omega (arith, left)) (omega (arith, held));
+      caught = catches_more (table_of c.locations) l.handler (l.stack - (1 + l.argument)) (length rest) (l.handling - 0) (length f.handling) w.known.fits.caught (omega (arith, left)) (omega (arith, held));
+      line = w.line;
+    }
 
-is_cmp : (n : ℕ) → n < 6 → (op : CmpOp) × (cmp_op_of n ≡ Some op)
-is_cmp zero h = (CmpOp.Eq, refl)
-is_cmp (suc zero) h = (CmpOp.Ne, refl)
-is_cmp (suc (suc zero)) h = (CmpOp.Lt, refl)
-is_cmp (suc (suc (suc zero))) h = (CmpOp.Le, refl)
-is_cmp (suc (suc (suc (suc zero)))) h = (CmpOp.Gt, refl)
-is_cmp (suc (suc (suc (suc (suc zero))))) h = (CmpOp.Ge, refl)
-is_cmp (suc (suc (suc (suc (suc (suc n)))))) h = absurd (omega arith)
+-- a code that is called begins
+pub called_at : (p : Parts) (c : Code) (k : ℕ) (args : List Value) → slice_get p.codes k ≡ Some c → IsCode p.bases c → length args ≡ c.parameters → IsAt p (called c k args)
+called_at p c k args found is count =
+    let given : length (map Some args) ≡ length args = length-map args Some in
+    let rest : length (replicate {A = Option Value} (length c.locals - length args) None) ≡ length c.locals - length args = length-replicate (length c.locals - length args) None in
+    record {
+      code = c;
+      is_of = record { found = found; locals = length-append (map Some args) (replicate (length c.locals - length args) None) ∙ omega (arith, given, rest, is.parameters) };
+      depth = is.start;
+      line = inr tt;
+    }
 
--- an index of a list has an element
-element : {X : Type 0} (xs : List X) (i : ℕ) → i < length xs → (x : X) × (slice_get xs i ≡ Some x)
-element [] i h = absurd (omega arith)
-element (x ∷ xs) zero h = (x, refl)
-element (x ∷ xs) (suc i) h = element xs i (omega arith)
+-- a call gets a value
+pub gets_value : (p : Parts) (f : Frame) (x : Value) → Waits p f → IsAt p (record f { index = f.index + 1; stack = x ∷ f.stack })
+gets_value p f x w = record {
+  code = w.code;
+  is_of = record { found = w.is_of.found; locals = w.is_of.locals };
+  depth = recorded (table_of w.code.locations) (f.index + 1) (f.index + 1) (1 + length f.stack) (length (x ∷ f.stack)) (length f.handling) (length f.handling) w.next refl (omega arith) refl;
+  line = inr (follows_next w.code f.index (f.index + 1) w.location f.line w.stands refl w.line);
+}
 
-not_built : {A : Type 0} → false ≡ true → A
-not_built h = absurd cc
+-- or an exception
+pub gets_exception : (p : Parts) (f : Frame) → Waits p f → IsThrown p f
+gets_exception p f w = record { code = w.code; is_of = w.is_of; location = w.location; stands = w.stands; caught = w.caught }
 
--- the instruction keeps the state
-effect_keeps : (bases : List ℕ) (c : Code) (k i : ℕ) (op : Op) (l : Location) (f : Frame) → Works c k i l f → op_at bases c.first i ≡ Some op → Known bases c i op l → runs op ≡ true → Keeps bases c k (effect c op l.argument f)
-effect_keeps bases c k i Op.Resume l f w o known built = next bases c k i Op.Resume l f f.stack w known refl (omega (arith, w.depth))
-effect_keeps bases c k i Op.LoadConst l f w o known built =
-    let found = element c.constants l.argument known.argument in
-    subst (λ (x : Option Value). Keeps bases c k (load_const f x)) (sym found.1) (next bases c k i Op.LoadConst l f (found.0 ∷ f.stack) w known refl (omega (arith, w.depth)))
-effect_keeps bases c k i Op.LoadFast l f w o known built =
-    let found = element f.locals l.argument (omega (arith, known.argument, w.locals)) in
-    subst (λ (x : Option (Option Value)). Keeps bases c k (load_fast f (or_empty (slice_get c.locals l.argument)) x)) (sym found.1) (loaded found.0)
-  where
-    loaded : (x : Option Value) → Keeps bases c k (load_fast f (or_empty (slice_get c.locals l.argument)) (Some x))
-    loaded None = tt
-    loaded (Some v) = next bases c k i Op.LoadFast l f (v ∷ f.stack) w known refl (omega (arith, w.depth))
-effect_keeps bases c k i Op.StoreFast l f w o known built = stored f.stack w.depth
-  where
-    within : nat_lt l.argument (length f.locals) ≡ true
-    within = lt-ltb l.argument (length f.locals) (omega (arith, known.argument, w.locals))
+length-lowest : {A : Type 0} (count : ℕ) (xs : List A) → count ≤ length xs → length (lowest count xs) ≡ count
+length-lowest count xs h = omega (arith, length-drop (length xs - count) xs)
 
-    set_local : (v : Value) → Works c k i l (record f { locals = slice_set f.locals l.argument (Some v) })
-    set_local v = record { stands = w.stands; code = w.code; index = w.index; depth = w.depth; locals = length-set f.locals l.argument (Some v) ∙ w.locals; line = w.line }
-
-    stored : (stack : List Value) → length stack ≡ l.stack → Keeps bases c k (store_fast f l.argument stack)
-    stored [] e = absurd (omega (arith, known.fits.has))
-    stored (v ∷ rest) e =
-        subst (λ (b : Bool). Keeps bases c k (if b then goes_on (record f { locals = slice_set f.locals l.argument (Some v) }) rest else ends (record f { stack = rest }) Mode.Stuck)) (sym within)
-        (next bases c k i Op.StoreFast l (record f { locals = slice_set f.locals l.argument (Some v) }) rest (set_local v) known refl (omega arith))
-effect_keeps bases c k i Op.BinaryOp l f w o known built =
-    let found = is_arith l.argument known.argument in
-    subst (λ (x : Option ArithOp). Keeps bases c k (binary_op x f)) (sym found.1)
-    (two bases c k f (arith_of found.0) f.stack (omega (arith, known.fits.has, w.depth)) (λ v rest e. next bases c k i Op.BinaryOp l f (v ∷ rest) w known refl (omega (arith, w.depth, e))))
-effect_keeps bases c k i Op.CompareOp l f w o known built =
-    let found = is_cmp l.argument known.argument in
-    subst (λ (x : Option CmpOp). Keeps bases c k (compare_op x f)) (sym found.1)
-    (two bases c k f (λ a b. as_value (compare_of found.0 a b)) f.stack (omega (arith, known.fits.has, w.depth)) (λ v rest e. next bases c k i Op.CompareOp l f (v ∷ rest) w known refl (omega (arith, w.depth, e))))
-effect_keeps bases c k i Op.JumpBackward l f w o known built =
-    let len : 0 + (l.stack - 0) ≡ length f.stack = omega (arith, w.depth) in
-    jump bases c k i (0 + (l.handling - 0)) Op.JumpBackward l f f.stack w o refl (subst (λ (n : ℕ). Records (table_of c.locations) l.argument n (0 + (l.handling - 0))) len known.fits.jumps.1)
-effect_keeps bases c k i Op.PopJumpIfFalse l f w o known built = popped f.stack w.depth
-  where
-    chosen : (b : Bool) (rest : List Value) → length rest + 1 ≡ l.stack → Keeps bases c k (if b then goes_on f rest else ends (record f { index = l.argument; stack = rest }) Mode.Run)
-    chosen true rest e = next bases c k i Op.PopJumpIfFalse l f rest w known refl (omega arith)
-    chosen false rest e =
-        let len : 0 + (l.stack - 1) ≡ length rest = omega arith in
-        jump bases c k i (0 + (l.handling - 0)) Op.PopJumpIfFalse l f rest w o refl (subst (λ (n : ℕ). Records (table_of c.locations) l.argument n (0 + (l.handling - 0))) len known.fits.jumps.1)
-
-    popped : (stack : List Value) → length stack ≡ l.stack → Keeps bases c k (pop_jump_if_false f l.argument stack)
-    popped [] e = absurd (omega (arith, known.fits.has))
-    popped (v ∷ rest) e = chosen (truth v) rest (omega arith)
-effect_keeps bases c k i Op.ReturnValue l f w o known built = returned f.stack w.depth
-  where
-    returned : (stack : List Value) → length stack ≡ l.stack → Keeps bases c k (return_value f stack)
-    returned [] e = absurd (omega (arith, known.fits.has))
-    returned (v ∷ rest) e = tt
-effect_keeps bases c k i op l f w o known built = not_built built
-
--- an instruction, its line being taken
-pub executed_keeps : (p : Parts) (c : Code) (k : ℕ) (op : Op) (l : Location) (f : Frame) → location_at c f.index ≡ Some l → length f.stack ≡ l.stack → op_at p.bases c.first f.index ≡ Some op → Known p.bases c f.index op l → runs op ≡ true
-    → IsAt p.bases c k f → Keeps p.bases c k (executed p c op l f).after
-executed_keeps p c k op l f stands depth o known built at =
-    effect_keeps p.bases c k f.index op l (record f { line = line_after l.line f.line })
-    (record { stands = stands; code = at.code; index = refl; depth = depth; locals = at.locals; line = taken l.line }) o known built
-  where
-    taken : (line : Option ℕ) → Follows (Some line) (line_after line f.line)
-    taken None = tt
-    taken (Some n) = refl
+-- a handler takes the exception
+pub is_caught : (p : Parts) (f : Frame) (e : Exc) (h : Handler) (t : IsThrown p f) → t.location.handler ≡ Some h → IsAt p (caught_in h e f)
+is_caught p f e h t is =
+    let c : Code = t.code in
+    let caught : Catches (table_of c.locations) (Some h) (length f.stack) (length f.handling) = subst (λ (o : Option Handler). Catches (table_of c.locations) o (length f.stack) (length f.handling)) is t.caught in
+    record {
+      code = c;
+      is_of = record { found = t.is_of.found; locals = t.is_of.locals };
+      depth = recorded (table_of c.locations) h.to h.to (1 + h.stack) (length (Raised-value e ∷ lowest h.stack f.stack)) h.handling (length (lowest h.handling f.handling)) caught.0.1 refl
+          (omega (arith, length-lowest h.stack f.stack caught.1)) (length-lowest h.handling f.handling caught.2);
+      line = inl (caught_at p.bases c f.index t.location h t.stands is);
+    }

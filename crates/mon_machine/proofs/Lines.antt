@@ -1,26 +1,36 @@
 -- LINE events stand at marked locations.
-use Rattle.std.proofs.Common.{◌≡◌, ℕ, ◌+◌, ◌*◌, ◌==◌, Bool, true, false, not, ◌||◌, ◌⊎◌, inl, inr, List, [], ◌∷◌, ◌++◌, refl, sym, ap, subst, ◌∙◌, arith}
+use Rattle.std.proofs.Common.{◌≡◌, ℕ, ◌+◌, ◌==◌, Bool, true, false, not, ◌||◌, ◌⊎◌, inl, inr, List, [], ◌∷◌, ◌++◌, refl, sym, ap, subst, ◌∙◌, arith}
 use Rattle.std.specs.Prelude.{Option, Some, None, if◌then◌else◌}
 use Rattle.std.specs.List.{AllByRecursion}
 use Rattle.std.proofs.lemmas.Option.{same_Some, none-some}
 use Rattle.std.proofs.Math.Bool.{or-true}
 use Rattle.std.proofs.lemmas.Bool.Decides.{nat_tests}
+use Rattle.mon_values.specs.declared.value.Exc.{Exc}
 use Rattle.mon_events.specs.declared.event.Event.{Event}
 use Rattle.mon_events.specs.declared.event.Slot.{Slot}
 use Rattle.mon_events.specs.declared.op.Op.{Op}
 use Rattle.mon_events.specs.Ops.{main_event}
 use Rattle.mon_code.specs.declared.program.Code.{Code}
+use Rattle.mon_code.specs.declared.program.Handler.{Handler}
 use Rattle.mon_code.specs.declared.program.Location.{Location}
 use Rattle.mon_code.specs.Programs.{Parts, location_at}
 use Rattle.mon_code.specs.Checked.{IsLocation, is_marked, is_target, follows_line}
 use Rattle.mon_frames.specs.declared.frame.Frame.{Frame}
+use Rattle.mon_frames.specs.declared.call.Call.{Call}
+use Rattle.mon_frames.specs.declared.call.Origin.{Origin}
+use Rattle.mon_frames.specs.declared.call.Origin.TheVariants.{Plain, Generator as Generated}
+use Rattle.mon_frames.specs.Calls.{handler_due}
+use Rattle.mon_frames.specs.Views.{FramesView, without_top}
 use Rattle.mon_recorders.specs.Happenings.{Happening, Local}
-use Rattle.mon_machine.specs.declared.mode.Mode.{Mode}
-use Rattle.mon_machine.specs.Step.{State, happens, line_events, main_events, main_happening, raise_events, executed, effect, line_after}
+use Rattle.mon_machine.specs.declared.mode.Ending.{Ending}
+use Rattle.mon_machine.specs.State.{Move}
+use Rattle.mon_machine.specs.Events.{Shown, shown, of_call, happens, offset, line_events, main_events, ancillary_events, raise_events, instruction_events}
+use Rattle.mon_machine.specs.Step.{goes_out, unwinds_from, unwinds}
 use Rattle.mon_machine.specs.Laws.{MarksLine, is_line_kind}
 use Rattle.mon_machine.proofs.Heard.{all_append}
 use Rattle.mon_machine.proofs.Fitting.{line_before}
-use Rattle.mon_machine.proofs.Keeping.{Follows, IsAt}
+use Rattle.mon_machine.proofs.Keeping.{Follows, IsOf}
+use Rattle.mon_machine.proofs.Moving.{IsOther}
 
 -- another line than the last one
 Differs : ℕ → Option ℕ → Type 0
@@ -45,44 +55,40 @@ is_marked_here bases c i op l n last known e came d =
     pick (inl target) = ap (λ (b : Bool). not (follows_line (line_before None c.locations i) (Some n)) || b) target ∙ or-true (not (follows_line (line_before None c.locations i) (Some n)))
     pick (inr follows) = ap (λ (b : Bool). b || is_target bases c.first 0 c.locations i) (follows_other (line_before None c.locations i) n last follows d)
 
-at_marked : (bases : List ℕ) (c : Code) (k : ℕ) (op : Op) (l : Location) (f : Frame) (n : ℕ) → location_at c f.index ≡ Some l → IsLocation bases c f.index (line_before None c.locations f.index) op l → IsAt bases c k f → l.line ≡ Some n → Differs n f.line
-    → MarksLine k c (happens Event.Line (Local (c.first + f.index) Slot.Line) f n)
-at_marked bases c k op l f n stands known at e d = record {
-  marked = λ _. record { index = f.index; location = l; stands = stands; marked = is_marked_here bases c f.index op l n f.line known e at.line d; line = e; kind = refl; code = at.code };
+-- a frame of a code before an instruction
+record Stands (p : Parts) (c : Code) (op : Op) (l : Location) (f : Frame) : Type 0 where
+  is_of : IsOf p c f
+  stands : location_at c f.index ≡ Some l
+  known : IsLocation p.bases c f.index (line_before None c.locations f.index) op l
+  came : (is_target p.bases c.first 0 c.locations f.index ≡ true) ⊎ Follows (line_before None c.locations f.index) f.line
+
+at_marked : (p : Parts) (c : Code) (op : Op) (l : Location) (f : Frame) (n : ℕ) → Stands p c op l f → l.line ≡ Some n → Differs n f.line → MarksLine p (happens Event.Line (Local (c.first + f.index) Slot.Line) f n)
+at_marked p c op l f n s e d = record {
+  marked = λ _. record { code = c; found = s.is_of.found; index = f.index; location = l; stands = s.stands; marked = is_marked_here p.bases c f.index op l n f.line s.known e s.came d; line = e; kind = refl };
   alone = λ _. refl;
 }
 
-line_marked : (bases : List ℕ) (c : Code) (k : ℕ) (op : Op) (l : Location) (f : Frame) → location_at c f.index ≡ Some l → IsLocation bases c f.index (line_before None c.locations f.index) op l → IsAt bases c k f
-    → AllByRecursion (MarksLine k c) (line_events f (c.first + f.index) l.line f.line)
+line_marked : (p : Parts) (c : Code) (op : Op) (l : Location) (f : Frame) → Stands p c op l f → AllByRecursion (MarksLine p) (line_events f (c.first + f.index) l.line f.line)
 unfolding Differs
-line_marked bases c k op l f stands known at = pick l.line f.line refl refl
+line_marked p c op l f s = pick l.line f.line refl refl
   where
-    chosen : (n m : ℕ) (b : Bool) → (n == m) ≡ b → l.line ≡ Some n → f.line ≡ Some m → AllByRecursion (MarksLine k c) (if b then [] else happens Event.Line (Local (c.first + f.index) Slot.Line) f n ∷ [])
+    chosen : (n m : ℕ) (b : Bool) → (n == m) ≡ b → l.line ≡ Some n → f.line ≡ Some m → AllByRecursion (MarksLine p) (if b then [] else happens Event.Line (Local (c.first + f.index) Slot.Line) f n ∷ [])
     chosen n m true t e last = tt
-    chosen n m false t e last = (at_marked bases c k op l f n stands known at e (λ o h. let same : m ≡ o = same_Some m o (sym last ∙ h) in subst (λ (x : ℕ). (n == x) ≡ false) same t), tt)
+    chosen n m false t e last = (at_marked p c op l f n s e (λ o h. let same : m ≡ o = same_Some m o (sym last ∙ h) in subst (λ (x : ℕ). (n == x) ≡ false) same t), tt)
 
-    pick : (line last : Option ℕ) → l.line ≡ line → f.line ≡ last → AllByRecursion (MarksLine k c) (line_events f (c.first + f.index) line last)
+    pick : (line last : Option ℕ) → l.line ≡ line → f.line ≡ last → AllByRecursion (MarksLine p) (line_events f (c.first + f.index) line last)
     pick None last e h = tt
-    pick (Some n) None e h = (at_marked bases c k op l f n stands known at e (λ o g. absurd (none-some o (sym h ∙ g))), tt)
+    pick (Some n) None e h = (at_marked p c op l f n s e (λ o g. absurd (none-some o (sym h ∙ g))), tt)
     pick (Some n) (Some m) e h = chosen n m (n == m) refl e h
 
 -- the other events are of other kinds
-quiet : (c : Code) (k : ℕ) (h : Happening) → (h.event ≡ Event.Line → ⊥) → is_line_kind h.kind ≡ false → MarksLine k c h
-quiet c k h other kind = record { marked = λ e. absurd (other e); alone = λ e. absurd (clash (sym e ∙ kind)) }
+quiet : (p : Parts) (h : Happening) → (h.event ≡ Event.Line → ⊥) → is_line_kind h.kind ≡ false → MarksLine p h
+quiet p h other kind = record { marked = λ e. absurd (other e); alone = λ e. absurd (clash (sym e ∙ kind)) }
   where
     clash : true ≡ false → ⊥
     clash e = cc
 
-main_quiet : (c : Code) (k : ℕ) (p : Parts) (op : Op) (event : Event) (location : ℕ) (f : Frame) (after : State) → (event ≡ Event.Line → ⊥) → MarksLine k c (main_happening p op event location f after)
-main_quiet c k p Op.Resume event location f after other = quiet c k (main_happening p Op.Resume event location f after) other refl
-main_quiet c k p op event location f after other = quiet c k (main_happening p op event location f after) other refl
-
-IsOther : Option Event → Type 0
-IsOther None = Unit {0}
-IsOther (Some event) = event ≡ Event.Line → ⊥
-
 main_event_other : (op : Op) (arg : ℕ) → IsOther (main_event op arg)
-unfolding IsOther
 main_event_other Op.Resume arg = pick (arg == 0)
   where
     pick : (b : Bool) → IsOther (if b then Some Event.PyStart else Some Event.PyResume)
@@ -99,26 +105,48 @@ main_event_other Op.ReturnValue arg = λ e. cc
 main_event_other Op.YieldValue arg = λ e. cc
 main_event_other _ arg = tt
 
-main_marked : (c : Code) (k : ℕ) (p : Parts) (op : Op) (event : Option Event) (location : ℕ) (f : Frame) (after : State) → IsOther event → AllByRecursion (MarksLine k c) (main_events p op event location f after)
-unfolding IsOther
-main_marked c k p op None location f after other = tt
-main_marked c k p op (Some event) location f after other = (main_quiet c k p op event location f after other, tt)
+main_marked : (p : Parts) (event : Option Event) (s : Option Shown) (location : ℕ) (f : Frame) → IsOther event → AllByRecursion (MarksLine p) (main_events event s location f)
+main_marked p None s location f other = tt
+main_marked p (Some event) None location f other = tt
+main_marked p (Some event) (Some s) location f other = (record { marked = λ e. absurd (other e); alone = λ e. cc }, tt)
 
-raise_marked : (c : Code) (k : ℕ) (p : Parts) (f : Frame) (mode : Mode) → AllByRecursion (MarksLine k c) (raise_events p f mode)
-raise_marked c k p f Mode.Run = tt
-raise_marked c k p f (Mode.Unwind e) = (record { marked = λ h. cc; alone = λ h. cc }, tt)
-raise_marked c k p f (Mode.Ended outcome) = tt
-raise_marked c k p f Mode.Stuck = tt
+ancillary_marked : (p : Parts) (event : Option Event) (s : Shown) (location : ℕ) (f : Frame) → IsOther event → AllByRecursion (MarksLine p) (ancillary_events event s location f)
+ancillary_marked p None s location f other = tt
+ancillary_marked p (Some event) s location f other = (record { marked = λ e. absurd (other e); alone = λ e. cc }, tt)
+
+raise_marked : (p : Parts) (f : Frame) (ending : Ending) → AllByRecursion (MarksLine p) (raise_events p f ending)
+raise_marked p f Ending.Continues = tt
+raise_marked p f (Ending.Raises e) = (record { marked = λ h. cc; alone = λ h. cc }, tt)
+raise_marked p f (Ending.Reraises e) = (record { marked = λ h. cc; alone = λ h. cc }, tt)
+raise_marked p f (Ending.Returns x) = tt
+raise_marked p f Ending.Misses = tt
 
 -- of an instruction
-pub executed_marked : (p : Parts) (c : Code) (k : ℕ) (op : Op) (l : Location) (f : Frame) → location_at c f.index ≡ Some l → IsLocation p.bases c f.index (line_before None c.locations f.index) op l → IsAt p.bases c k f
-    → AllByRecursion (MarksLine k c) (executed p c op l f).events
-executed_marked p c k op l f stands known at =
-    let after = effect c op l.argument (record f { line = line_after l.line f.line }) in
-    all_append (MarksLine k c) (line_events f (c.first + f.index) l.line f.line)
-    (happens Event.Instruction (Local (c.first + f.index) Slot.Instruction) f (2 * f.index) ∷ (main_events p op (main_event op l.argument) (c.first + f.index) f after ++ raise_events p f after.mode))
-    (line_marked p.bases c k op l f stands known at) (
-      quiet c k (happens Event.Instruction (Local (c.first + f.index) Slot.Instruction) f (2 * f.index)) (λ e. cc) refl,
-      all_append (MarksLine k c) (main_events p op (main_event op l.argument) (c.first + f.index) f after) (raise_events p f after.mode)
-          (main_marked c k p op (main_event op l.argument) (c.first + f.index) f after (main_event_other op l.argument)) (raise_marked c k p f after.mode),
+pub instruction_marked : (p : Parts) (c : Code) (op : Op) (l : Location) (f : Frame) (m : Move) → IsOf p c f → location_at c f.index ≡ Some l → IsLocation p.bases c f.index (line_before None c.locations f.index) op l
+    → (is_target p.bases c.first 0 c.locations f.index ≡ true) ⊎ Follows (line_before None c.locations f.index) f.line → IsOther m.ancillary
+    → AllByRecursion (MarksLine p) (instruction_events p op l.argument (c.first + f.index) l.line f m)
+instruction_marked p c op l f m is_of stands known came other =
+    let location : ℕ = c.first + f.index in
+    let main = main_events (main_event op l.argument) (shown p op l.argument f m.frames.calls) location f in
+    let ancillary = ancillary_events m.ancillary (of_call p l.argument f.stack) location f in
+    let raised = raise_events p f m.ending in
+    let instruction = happens Event.Instruction (Local location Slot.Instruction) f (offset f) in
+    all_append (MarksLine p) (line_events f location l.line f.line) (instruction ∷ (main ++ (ancillary ++ raised))) (line_marked p c op l f (record { is_of = is_of; stands = stands; known = known; came = came })) (
+      quiet p instruction (λ e. cc) refl,
+      all_append (MarksLine p) main (ancillary ++ raised) (main_marked p (main_event op l.argument) (shown p op l.argument f m.frames.calls) location f (main_event_other op l.argument))
+          (all_append (MarksLine p) ancillary raised (ancillary_marked p m.ancillary (of_call p l.argument f.stack) location f other) (raise_marked p f m.ending)),
     )
+
+goes_out_marked : (p : Parts) (v : FramesView) (calls : List Call) (e : Exc) (f : Frame) → AllByRecursion (MarksLine p) (goes_out p v calls e f).events
+goes_out_marked p v [] e f = (record { marked = λ h. cc; alone = λ h. cc }, tt)
+goes_out_marked p v (call ∷ calls) e f = (record { marked = λ h. cc; alone = λ h. cc }, (record { marked = λ h. cc; alone = λ h. cc }, tt))
+
+unwinds_from_marked : (p : Parts) (v : FramesView) (o : Origin) (e : Exc) (f : Frame) (h : Option Handler) → AllByRecursion (MarksLine p) (unwinds_from p v o e f h).events
+unwinds_from_marked p v o e f (Some h) = (record { marked = λ h. cc; alone = λ h. cc }, tt)
+unwinds_from_marked p v Plain e f None = goes_out_marked p (without_top v) (without_top v).calls e f
+unwinds_from_marked p v (Generated number by) e f None = tt
+
+-- of an exception that goes on
+pub unwinds_marked : (p : Parts) (v : FramesView) (e : Exc) (calls : List Call) → AllByRecursion (MarksLine p) (unwinds p v e calls).events
+unwinds_marked p v e [] = tt
+unwinds_marked p v e (call ∷ calls) = unwinds_from_marked p v call.origin e call.frame (handler_due p call.frame.code call.frame.index)

@@ -15,7 +15,8 @@ use Rattle.mon_code.specs.Checked.{IsChecked, IsCode, is_constant, constant_step
 use Rattle.mon_recorders.specs.declared.record.Record.{Record}
 use Rattle.mon_recorders.specs.declared.report.Outcome.{Outcome}
 use Rattle.mon_machine.specs.declared.mode.Mode.{Mode}
-use Rattle.mon_machine.specs.Step.{step, start}
+use Rattle.mon_machine.specs.State.{start}
+use Rattle.mon_machine.specs.Step.{step}
 use Rattle.mon_machine.specs.Run.{after_steps, steps_done, records_for}
 use Rattle.mon_machine.specs.Serial.{line_records}
 use Rattle.mon_machine.specs.Laws.{IsCall, runs}
@@ -163,11 +164,11 @@ is_checked = record {
   codes = (refl, f_is_code, (refl, g_is_code, refl));
 }
 
-run_op : Option Op → Bool
+unfoldable pub run_op : Option Op → Bool
 run_op None = true
 run_op (Some op) = runs op
 
-are_run : List ℕ → Bool
+unfoldable pub are_run : List ℕ → Bool
 are_run [] = true
 are_run (b ∷ bs) = run_op (op_of b) && are_run bs
 
@@ -179,7 +180,7 @@ both_right : (x y : Bool) → (x && y) ≡ true → y ≡ true
 both_right true y e = e
 both_right false y e = cc
 
-all_run : (bases : List ℕ) → are_run bases ≡ true → (location : ℕ) (op : Op) → op_in (slice_get bases location) ≡ Some op → runs op ≡ true
+pub all_run : (bases : List ℕ) → are_run bases ≡ true → (location : ℕ) (op : Op) → op_in (slice_get bases location) ≡ Some op → runs op ≡ true
 unfolding are_run run_op
 all_run [] e location op h = cc
 all_run (b ∷ bs) e zero op h = sym (ap run_op h) ∙ both_left (run_op (op_of b)) (are_run bs) e

@@ -2,9 +2,10 @@
 use Rattle.std.proofs.Common.{[], ◌≡◌, ℕ, zero, suc, ◌+◌, ◌-◌, ◌≤◌, Bool, true, false, refl, sym, ap, ◌∙◌, arith, add-one, subst}
 use Rattle.std.specs.Prelude.{if◌then◌else◌}
 use Rattle.mon_code.specs.Programs.{Parts}
-use Rattle.mon_frames.specs.declared.frame.Frame.{Frame}
+use Rattle.mon_frames.specs.Views.{FramesView}
 use Rattle.mon_machine.specs.declared.mode.Mode.{Mode}
-use Rattle.mon_machine.specs.Step.{State, step, in_mode, ends, goes}
+use Rattle.mon_machine.specs.State.{State, goes}
+use Rattle.mon_machine.specs.Step.{step, in_mode, in_mode_of}
 use Rattle.mon_machine.specs.Run.{after_steps, steps_done, Goes}
 use Rattle.mon_machine.specs.Laws.{GoesOnByOne}
 
@@ -31,16 +32,16 @@ pub one_more : (p : Parts) (s : State) (n : ℕ) → after_steps p s (n + 1) ≡
 unfolding after_steps
 one_more p s n = after_steps_sum p s n 1
 
-stands : (p : Parts) (f : Frame) (m : Mode) → goes m ≡ false → (in_mode p f m).after ≡ ends f m
-stands p f Mode.Run e = let h : true ≡ false = e in cc
-stands p f (Mode.Unwind x) e = let h : true ≡ false = e in cc
-stands p f (Mode.Ended outcome) e = refl
-stands p f Mode.Stuck e = refl
+stands : (p : Parts) (v : FramesView) (m : Mode) → goes m ≡ false → (in_mode p v m).after ≡ in_mode_of v m
+stands p v Mode.Run e = let h : true ≡ false = e in cc
+stands p v (Mode.Unwind x) e = let h : true ≡ false = e in cc
+stands p v (Mode.Ended outcome) e = refl
+stands p v Mode.Stuck e = refl
 
 -- a state that does not go on stands still
 pub stands_still : (p : Parts) (s : State) → goes s.mode ≡ false → (step p s).after ≡ s
 unfolding step
-stands_still p s e = stands p s.frame s.mode e
+stands_still p s e = stands p s.frames s.mode e
 
 pub stands_still_on : (p : Parts) (s : State) (n : ℕ) → goes s.mode ≡ false → after_steps p s n ≡ s
 unfolding after_steps
@@ -134,16 +135,16 @@ steps_done_within p s (suc n) = pick (goes s.mode) (steps_done_within p (step p 
     pick true h = omega arith
     pick false h = omega arith
 
-silent : (p : Parts) (f : Frame) (m : Mode) → goes m ≡ false → (in_mode p f m).events ≡ []
-silent p f Mode.Run e = let h : true ≡ false = e in cc
-silent p f (Mode.Unwind x) e = let h : true ≡ false = e in cc
-silent p f (Mode.Ended outcome) e = refl
-silent p f Mode.Stuck e = refl
+silent : (p : Parts) (v : FramesView) (m : Mode) → goes m ≡ false → (in_mode p v m).events ≡ []
+silent p v Mode.Run e = let h : true ≡ false = e in cc
+silent p v (Mode.Unwind x) e = let h : true ≡ false = e in cc
+silent p v (Mode.Ended outcome) e = refl
+silent p v Mode.Stuck e = refl
 
 -- nothing happens where a state does not go on
 pub nothing_happens : (p : Parts) (s : State) → goes s.mode ≡ false → (step p s).events ≡ []
 unfolding step
-nothing_happens p s e = silent p s.frame s.mode e
+nothing_happens p s e = silent p s.frames s.mode e
 
 pub is_run : GoesOnByOne
 is_run p s n = record {

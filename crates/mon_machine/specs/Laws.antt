@@ -12,7 +12,8 @@ use Rattle.mon_code.specs.Checked.{IsChecked}
 use Rattle.mon_words.specs.declared.history.Board.{Board}
 use Rattle.mon_recorders.specs.Happenings.{Happening, Kind, Local, Global, Ancillary}
 use Rattle.mon_machine.specs.declared.mode.Mode.{Mode}
-use Rattle.mon_machine.specs.Step.{State, step, goes, start}
+use Rattle.mon_machine.specs.State.{State, goes, start}
+use Rattle.mon_machine.specs.Step.{step}
 use Rattle.mon_machine.specs.Run.{after_steps, steps_done, Goes, is_line, is_heard, heard, records_of}
 use Rattle.mon_machine.specs.Serial.{wants_line, line_records, HasLineWants}
 
@@ -27,18 +28,11 @@ pub record IsRun (p : Parts) (s : State) (n : ℕ) : Type 0 where
 abbrev pub GoesOnByOne : Type 0
 GoesOnByOne = (p : Parts) (s : State) (n : ℕ) → IsRun p s n
 
--- the opcodes that the machine runs so far
+-- the opcodes that the machine runs so far: all but those of generators
 abbrev pub runs : Op → Bool
-runs Op.Resume = true
-runs Op.LoadConst = true
-runs Op.LoadFast = true
-runs Op.StoreFast = true
-runs Op.BinaryOp = true
-runs Op.CompareOp = true
-runs Op.JumpBackward = true
-runs Op.PopJumpIfFalse = true
-runs Op.ReturnValue = true
-runs _ = false
+runs Op.ReturnGenerator = false
+runs Op.YieldValue = false
+runs _ = true
 
 -- a program has no other
 abbrev pub AllRun : Parts → Type 0
@@ -55,15 +49,16 @@ pub record IsCall (p : Parts) (k : ℕ) (c : Code) (args : List Value) : Type 0 
 abbrev pub NeverStuck : Type 0
 NeverStuck = (p : Parts) (k : ℕ) (c : Code) (args : List Value) → IsCall p k c args → (n : ℕ) → ¬ ((after_steps p (start c k args) n).mode ≡ Mode.Stuck)
 
--- what happens stands at a marked location of code k, and has the line of that location
-pub record AtMarked (k : ℕ) (c : Code) (h : Happening) : Type 0 where
+-- what happens stands at a marked location of its code, and has the line of that location
+pub record AtMarked (p : Parts) (h : Happening) : Type 0 where
+  pub code : Code
+  pub found : slice_get p.codes h.code ≡ Some code
   pub index : ℕ
   pub location : Location
-  pub stands : location_at c index ≡ Some location
+  pub stands : location_at code index ≡ Some location
   pub marked : location.is_marked ≡ true
   pub line : location.line ≡ Some h.at
-  pub kind : h.kind ≡ Local (c.first + index) Slot.Line
-  pub code : h.code ≡ k
+  pub kind : h.kind ≡ Local (code.first + index) Slot.Line
 
 abbrev pub is_line_kind : Kind → Bool
 is_line_kind (Local location slot) = is_line slot
@@ -71,12 +66,12 @@ is_line_kind Global = false
 is_line_kind (Ancillary location) = false
 
 -- LINE events, and no others, have the kind of one, and stand at marked locations
-pub record MarksLine (k : ℕ) (c : Code) (h : Happening) : Type 0 where
-  pub marked : h.event ≡ Event.Line → AtMarked k c h
+pub record MarksLine (p : Parts) (h : Happening) : Type 0 where
+  pub marked : h.event ≡ Event.Line → AtMarked p h
   pub alone : is_line_kind h.kind ≡ true → h.event ≡ Event.Line
 
 abbrev pub LineMarks : Type 0
-LineMarks = (p : Parts) (k : ℕ) (c : Code) (args : List Value) → IsCall p k c args → (n : ℕ) → AllByRecursion (MarksLine k c) (step p (after_steps p (start c k args) n)).events
+LineMarks = (p : Parts) (k : ℕ) (c : Code) (args : List Value) → IsCall p k c args → (n : ℕ) → AllByRecursion (MarksLine p) (step p (after_steps p (start c k args) n)).events
 
 -- a tool that such a board enables for LINE alone hears of each step, and of a whole run, its LINE events and nothing else
 pub record HearsLines (p : Parts) (tool : ℕ) (b : Board) (s : State) : Type 0 where

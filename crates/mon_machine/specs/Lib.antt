@@ -1,3 +1,7 @@
+pub mod State
+pub mod Operations
+pub mod Moves
+pub mod Events
 pub mod Step
 pub mod Run
 pub mod Serial

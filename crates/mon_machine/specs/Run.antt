@@ -10,7 +10,8 @@ use Rattle.mon_recorders.specs.declared.record.Record.{Record}
 use Rattle.mon_recorders.specs.declared.report.Outcome.{Outcome}
 use Rattle.mon_recorders.specs.Happenings.{Happening, Kind, Local, Global, Ancillary, record_of}
 use Rattle.mon_machine.specs.declared.mode.Mode.{Mode}
-use Rattle.mon_machine.specs.Step.{State, step, goes}
+use Rattle.mon_machine.specs.State.{State, goes}
+use Rattle.mon_machine.specs.Step.{step}
 
 -- the state after n steps; one that does not go on stands still
 unfoldable pub after_steps : Parts → State → ℕ → State
@@ -57,6 +58,11 @@ records_of p first marks i s [] = []
 records_of p first marks i s (at ∷ positions) =
     heard (is_heard (after first (take at marks))) i (step p s).events ++ records_of p first marks (i + 1) (step p s).after positions
 
+-- the texts that n steps print, in order
+unfoldable pub printed_by : Parts → State → ℕ → List (List ℕ)
+printed_by p s zero = []
+printed_by p s (suc n) = (step p s).printed ++ printed_by p (step p s).after n
+
 -- positions that never fall, from low to high
 abbrev pub Between : ℕ → List ℕ → ℕ → Type 0
 Between low [] high = low ≤ high
@@ -67,9 +73,10 @@ unfoldable pub Goes : Parts → State → ℕ → Type 0
 Goes p s zero = Unit {0}
 Goes p s (suc n) = (goes s.mode ≡ true) × Goes p (step p s).after n
 
--- what a thread has done: where it is, its records, and its number of steps
+-- what a thread has done: where it is, what it printed, its records, and its number of steps
 pub record Progress : Type 0 where
   pub state : State
+  pub printed : List (List ℕ)
   pub records : List Record
   pub steps : ℕ
 
@@ -80,5 +87,6 @@ pub record Ran (p : Parts) (first : Board) (before later : List Mark) (old new :
   pub between : Between (length before) positions (length later)
   pub goes : Goes p old.state (length positions)
   pub state : new.state ≡ after_steps p old.state (length positions)
+  pub printed : new.printed ≡ old.printed ++ printed_by p old.state (length positions)
   pub records : new.records ≡ old.records ++ records_of p first later old.steps old.state positions
   pub steps : new.steps ≡ old.steps + length positions
