@@ -66,7 +66,7 @@ pub has_program : (held : Option (List ℕ)) (read : List ℕ) (m : Module) → 
 has_program None read m r d is = tt
 has_program (Some text) read m r d is = (m, found text read (Parsed m) r d, is)
 
-pub cause_of_plan : (replay : Replay) (holds : List ℕ → Option (List ℕ)) (before mid now : ℕ) (was is : Option (List ℕ)) (r : Result Reply StoreFault) → mid ≡ before → (r ≡ Err Failed → HasProgram (holds replay.file)) → ReadCause replay.plan mid now was is r → ReplyCause (Some replay) holds before now is r
-cause_of_plan replay holds before mid now was is (Ok x) e has h = h.0 ∙ e
-cause_of_plan replay holds before mid now was is (Err Memory) e has h = h.0 ∙ e
-cause_of_plan replay holds before mid now was is (Err Failed) e has h = (let P : ℕ → Type 0 = λ n. Rose n now in subst P e h.0, inr (h.1, has refl))
+pub cause_of_plan : (replay : Replay) (holds : List ℕ → Option (List ℕ)) (before mid now : ℕ) (was mid_failed is : Option (List ℕ)) (r : Result Reply StoreFault) → mid ≡ before → mid_failed ≡ was → (r ≡ Err Failed → HasProgram (holds replay.file)) → ReadCause replay.plan mid now mid_failed is r → ReplyCause (Some replay) holds before now was is r
+cause_of_plan replay holds before mid now was mid_failed is (Ok x) e same has h = (h.0 ∙ e, h.1 ∙ same)
+cause_of_plan replay holds before mid now was mid_failed is (Err Memory) e same has h = (h.0 ∙ e, h.1 ∙ same)
+cause_of_plan replay holds before mid now was mid_failed is (Err Failed) e same has h = (let P : ℕ → Type 0 = λ n. Rose n now in subst P e h.0, inr (h.1, has refl))

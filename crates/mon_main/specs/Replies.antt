@@ -15,8 +15,9 @@ answer_of (Source line) = source (string_bytes line)
 answer_of NotBuilt = not_built
 answer_of (Report text) = record { status = Done; text = text.items }
 
--- a command fails to read only where the store's count rises and the name is one that it has to read
-abbrev pub ReplyCause : Option Replay → (List ℕ → Option (List ℕ)) → ℕ → ℕ → Option (List ℕ) → Result Reply StoreFault → Type 0
-ReplyCause replay holds before now failed (Ok r) = now ≡ before
-ReplyCause replay holds before now failed (Err Memory) = now ≡ before
-ReplyCause replay holds before now failed (Err Failed) = Rose before now × FailedRead replay holds failed
+-- a command fails to read only where the store's count rises and the name is one that it has to read; else neither the
+-- count nor the name changes
+abbrev pub ReplyCause : Option Replay → (List ℕ → Option (List ℕ)) → ℕ → ℕ → Option (List ℕ) → Option (List ℕ) → Result Reply StoreFault → Type 0
+ReplyCause replay holds before now was is (Ok r) = (now ≡ before) × (is ≡ was)
+ReplyCause replay holds before now was is (Err Memory) = (now ≡ before) × (is ≡ was)
+ReplyCause replay holds before now was is (Err Failed) = Rose before now × FailedRead replay holds is

@@ -41,6 +41,12 @@ pub fn host_serial<S: Store, K: Sink>(
         WritesPrefix (K.written out.old) (answer (texts words.now) reading plan).text (K.written out.new) }
     ensures memory { result ≡ Status.Memory → K.written out.new ≡ K.written out.old }
 
+    // what is not at fault is as before
+    ensures kept { (n : List ℕ) → S.holds store.new n ≡ S.holds store.old n }
+    ensures quiet_store { ¬ (result ≡ Status.ReadFault) →
+        (S.faults store.new ≡ S.faults store.old) × (S.last_failed store.new ≡ S.last_failed store.old) }
+    ensures quiet_sink { ¬ (result ≡ Status.WriteFault) → K.faults out.new ≡ K.faults out.old }
+
     // where no fault came, the status is the due one, or there was no memory
     ensures complete { (reading : Reading) (plan : List ℕ) → Tells (replay_of (texts words.now)) (S.holds store.old) reading plan →
         ¬ Rose (S.faults store.old) (S.faults store.new) → ¬ Rose (K.faults out.old) (K.faults out.new) →

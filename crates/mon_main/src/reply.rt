@@ -69,9 +69,10 @@ pub fn reply_to<S: Store>(
     words: &[String],
     store: &mut S,
 ) -> Result<Reply, StoreFault>
+    ensures kept { (n : List ℕ) → S.holds store.new n ≡ S.holds store.old n }
     ensures due { (reading : Reading) (plan : List ℕ) → spec.Tells (replay_of (texts words.now)) (S.holds store.old) reading plan → IfOk result (λ r. answer_of r ≡ spec.answer (texts words.now) reading plan) }
     ensures usage { IfOk result (λ r. (answer_of r).status ≡ Status.Usage → replay_of (texts words.now) ≡ None) }
-    ensures cause { ReplyCause (replay_of (texts words.now)) (S.holds store.old) (S.faults store.old) (S.faults store.new) (S.last_failed store.new) result }
+    ensures cause { ReplyCause (replay_of (texts words.now)) (S.holds store.old) (S.faults store.old) (S.faults store.new) (S.last_failed store.old) (S.last_failed store.new) result }
 {
     match replay_words(words) {
         Some((file, plan)) => replay(alloc, file, plan, store),
@@ -86,9 +87,10 @@ fn replay<S: Store>(
     plan: &str,
     store: &mut S,
 ) -> Result<Reply, StoreFault>
+    ensures kept { (n : List ℕ) → S.holds store.new n ≡ S.holds store.old n }
     ensures due { (reading : Reading) (p : List ℕ) → spec.Tells (Some (record { file = file.now; plan = plan.now })) (S.holds store.old) reading p → IfOk result (λ r. answer_of r ≡ spec.sourced reading p) }
     ensures not_usage { IfOk result (λ r. (answer_of r).status ≡ Status.Usage → ⊥) }
-    ensures cause { ReplyCause (Some (record { file = file.now; plan = plan.now })) (S.holds store.old) (S.faults store.old) (S.faults store.new) (S.last_failed store.new) result }
+    ensures cause { ReplyCause (Some (record { file = file.now; plan = plan.now })) (S.holds store.old) (S.faults store.old) (S.faults store.new) (S.last_failed store.old) (S.last_failed store.new) result }
 {
     let text = contents(alloc, file, store)?;
     match module(alloc, text.as_slice()) {
@@ -104,6 +106,7 @@ fn compiled<S: Store>(
     plan: &str,
     store: &mut S,
 ) -> Result<Reply, StoreFault>
+    ensures kept { (n : List ℕ) → S.holds store.new n ≡ S.holds store.old n }
     ensures due { (p : List ℕ) → spec.TellsPlan (spec.program_of tree.now) (S.holds store.old plan.now) p → IfOk result (λ r. answer_of r ≡ spec.compiled (compile_fault tree.now) (spec.program_of tree.now) p) }
     ensures not_usage { IfOk result (λ r. (answer_of r).status ≡ Status.Usage → ⊥) }
     ensures cause { ReadCause plan.now (S.faults store.old) (S.faults store.new) (S.last_failed store.old) (S.last_failed store.new) result }
@@ -133,6 +136,7 @@ fn run<S: Store>(
 ) -> Result<Reply, StoreFault>
     requires bases { bases.now ≡ program.now.bases }
     requires runs { AllRun program.now }
+    ensures kept { (n : List ℕ) → S.holds store.new n ≡ S.holds store.old n }
     ensures due { (p : List ℕ) → S.holds store.old plan.now ≡ Some p → IfOk result (λ r. answer_of r ≡ spec.planned program.now (plan_of program.now p)) }
     ensures not_usage { IfOk result (λ r. (answer_of r).status ≡ Status.Usage → ⊥) }
     ensures cause { ReadCause plan.now (S.faults store.old) (S.faults store.new) (S.last_failed store.old) (S.last_failed store.new) result }

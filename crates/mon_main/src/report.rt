@@ -1,4 +1,4 @@
-ghost use Rattle.std.specs.Prelude.{◌≡◌, ◌++◌, IfOk, OnOk, string_bytes, encode_utf8_all};
+ghost use Rattle.std.specs.Prelude.{◌≡◌, ◌++◌, [], IfOk, OnOk, string_bytes, encode_utf8_all};
 ghost use Rattle.std.specs.Fmt.{decimal};
 ghost use Rattle.mon_values.specs.Printing.{repr_of};
 ghost use Rattle.mon_main.specs.Plans.{set_call as set_call_text, register_call as register_call_text};
@@ -208,13 +208,16 @@ fn write_end(
     out.push_str("\n")
 }
 
-/// What is written of a thread that ran under a plan, as UTF-8.
+/// What is written of a thread that ran under a plan, as UTF-8. The thread printed nothing and disabled nothing: a report
+/// has no lines for either.
 pub fn print_report(
     alloc: Global,
     program: &Program,
     plan: &Plan,
     report: &ThreadReport,
 ) -> Result<Vec<u8>, AllocError>
+    requires printed { report.now.printed ≡ [] }
+    requires disables { report.now.disables ≡ [] }
     ensures { IfOk result (λ v. v.items ≡ report_text program.now plan.now report.now.records report.now.steps report.now.outcome) }
 {
     let mut out = String::new(alloc);

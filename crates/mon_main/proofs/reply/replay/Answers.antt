@@ -13,7 +13,7 @@ returns-in-Ok-clause-due g c = λ reading p tells.
 pub returns-in-Ok-clause-cause : goal.returns-in-Ok-clause-cause
 returns-in-Ok-clause-cause g c =
     let is : ReadAs c.in_ok-text.text.items (Parsed c.in-Ok.tree) = subst (λ (l : List ℕ). ReadAs l (Parsed c.in-Ok.tree)) c.as_slice.ensures.value c.in-Ok.ensures in
-    cause_of_plan (record { file = c.args.file.now; plan = c.args.plan.now }) (g.S.Store.holds c.args.store.now) _ _ _ _ _ _ c.in_ok-text.ensures.cause.0 (λ e. has_program (g.S.Store.holds c.args.store.now c.args.file.now) c.in_ok-text.text.items c.in-Ok.tree c.in_ok-text.ensures.bytes is (c.compiled.ensures.has_program e)) c.compiled.ensures.cause
+    cause_of_plan (record { file = c.args.file.now; plan = c.args.plan.now }) (g.S.Store.holds c.args.store.now) _ _ _ _ _ _ _ c.in_ok-text.ensures.cause.0 c.in_ok-text.ensures.cause.1 (λ e. has_program (g.S.Store.holds c.args.store.now c.args.file.now) c.in_ok-text.text.items c.in-Ok.tree c.in_ok-text.ensures.bytes is (c.compiled.ensures.has_program e)) c.compiled.ensures.cause
 
 pub returns-clause-due : goal.returns-clause-due
 returns-clause-due g c = λ reading p tells.

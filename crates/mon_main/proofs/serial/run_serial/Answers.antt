@@ -58,8 +58,8 @@ advance-requires-clause-bases c =
     let is = first p tool c.try_enter.new.self.board.now.chair.me.0 c.in_ok-board.board c.handle-handle.result.board.now c.in_ok-board.ensures.view c.handle-handle.ensures.view (ap (λ (b : PlainBoard). b.chair.me.0) c.try_enter.ensures.value.0) in
     ap (λ (b : Board). map base_in b.cells) is ∙ first_words-bases p tool c.first_board.ensures.checked c.requires.fits.tool small
 
-pub returns-in-Ok-advance : goal.returns-in-Ok-advance
-returns-in-Ok-advance c =
+pub returns-in-Ok-advance-clause-serial : goal.returns-in-Ok-advance-clause-serial
+returns-in-Ok-advance-clause-serial c =
     let p : Parts = c.args.program.now in
     let plan : Plan = c.args.plan.now in
     let code : Code = c.in-Some.code.now in
