@@ -13,9 +13,9 @@ use Rattle.mon_main.specs.declared.plan.PlanFault.TheVariants as plan_fault
 use Rattle.mon_main.specs.declared.status.Status.TheVariants.{Done}
 
 -- the print of what the serial run gives
-pub is_replayed : (p : Parts) (q : Plan) (text : List ℕ) (records : List Record) (steps : ℕ) (outcome : Outcome) → text ≡ report_text p q records steps outcome → records ≡ (serial_of p q).records → steps ≡ (serial_of p q).steps → outcome ≡ (serial_of p q).outcome → text ≡ replayed p q
-is_replayed p q text records steps outcome t a b e =
-    t ∙ ap (λ (l : List Record). report_text p q l steps outcome) a ∙ ap (λ (n : ℕ). report_text p q (serial_of p q).records n outcome) b ∙ ap (λ (o : Outcome). report_text p q (serial_of p q).records (serial_of p q).steps o) e
+pub is_replayed : (p : Parts) (q : Plan) (text : List ℕ) (printed : List (List ℕ)) (records : List Record) (steps : ℕ) (outcome : Outcome) → text ≡ report_text p q printed records steps outcome
+    → printed ≡ (serial_of p q).printed → records ≡ (serial_of p q).records → steps ≡ (serial_of p q).steps → outcome ≡ (serial_of p q).outcome → text ≡ replayed p q
+is_replayed p q text printed records steps outcome t w a b e = t ∙ λ i. report_text p q (w i) (a i) (b i) (e i)
 
 pub is_done : (p : Parts) (due : Option Plan) (q : Plan) (text : List ℕ) → Answers (Ok q) due → text ≡ replayed p q → (let a : Answer = record { status = Done; text = text } in a) ≡ planned p due
 is_done p None q text h e = absurd h

@@ -40,7 +40,7 @@ use Rattle.mon_main.specs.Serial.{serial_from, serial_in, serial_of, line_word, 
 -- a thread that did what it could of so many steps, over words that want LINE for one tool, did the serial run
 pub serial_ran : (p : Parts) (k : ℕ) (c : Code) (args : List Value) (tool : ℕ) (b : Board) (old new : Progress) (steps : ℕ) → IsCall p k c args → HasLineWants p tool b → old ≡ record { state = start c k args; records = []; steps = 0 }
     → Ran p b [] [] old new → (goes new.state.mode ≡ false) ⊎ (new.steps ≡ old.steps + steps) → new.steps ≤ old.steps + steps
-    → record { records = new.records; steps = new.steps; outcome = outcome_of new.state.mode } ≡ serial_from p tool steps (start c k args)
+    → record { printed = []; records = new.records; steps = new.steps; outcome = outcome_of new.state.mode } ≡ serial_from p tool steps (start c k args)
 serial_ran p k c args tool b old new steps call wants begins r ends few =
     let s : State = start c k args in
     let n : ℕ = length r.positions in
@@ -65,7 +65,7 @@ serial_ran p k c args tool b old new steps call wants begins r ends few =
     ∙ (heard_by_wants p k c args call tool b wants).whole_run 0 r.positions in
     let records : new.records ≡ line_records p tool 0 s steps = heard ∙ ap (λ m. line_records p tool 0 s m) (sym done.0) ∙ line_records_done p tool 0 s steps in
     let outcome : outcome_of new.state.mode ≡ outcome_of (after_steps p s steps).mode = ap (λ (x : State). outcome_of x.mode) (there ∙ sym done.1) in
-    λ i. record { records = records i; steps = (count ∙ sym done.0) i; outcome = outcome i }
+    λ i. record { printed = []; records = records i; steps = (count ∙ sym done.0) i; outcome = outcome i }
 
 -- the parts of a word whose live bits are all 1
 word_parts : (place base want : ℕ) → place < 256 → base < 256 → want < 16777216 → let n = place + base * 256 + want * 65536 + 16777215 * 1099511627776 in (n / 65536 % 16777216 ≡ want) × (n / 1099511627776 ≡ 16777215) × (n / 256 % 256 ≡ base)

@@ -40,7 +40,7 @@ source line = record { status = Source; text = line }
 
 -- the print of the serial run
 abbrev pub replayed : Parts → Plan → List ℕ
-replayed p q = report_text p q (serial_of p q).records (serial_of p q).steps (serial_of p q).outcome
+replayed p q = report_text p q (serial_of p q).printed (serial_of p q).records (serial_of p q).steps (serial_of p q).outcome
 
 abbrev pub planned : Parts → Option Plan → Answer
 planned p None = not_built

@@ -13,6 +13,7 @@ use Rattle.mon_machine.specs.Serial.{line_records, of_codes}
 use Rattle.mon_main.specs.declared.plan.Plan.{Plan}
 
 pub record Serial : Type 0 where
+  pub printed : List (List ℕ)
   pub records : List Record
   pub steps : ℕ
   pub outcome : Outcome
@@ -20,6 +21,7 @@ pub record Serial : Type 0 where
 -- at most so many steps from a state
 abbrev pub serial_from : Parts → ℕ → ℕ → State → Serial
 serial_from p tool steps s = record {
+  printed = [];
   records = line_records p tool 0 s steps;
   steps = steps_done p s steps;
   outcome = outcome_of (after_steps p s steps).mode;
@@ -27,7 +29,7 @@ serial_from p tool steps s = record {
 
 -- a program has the plan's code; without it nothing would be done
 abbrev pub serial_in : Parts → Plan → Option Code → Serial
-serial_in p plan None = record { records = []; steps = 0; outcome = Outcome.Limit }
+serial_in p plan None = record { printed = []; records = []; steps = 0; outcome = Outcome.Limit }
 serial_in p plan (Some c) = serial_from p plan.tool plan.steps (start c plan.code (map Int plan.args))
 
 unfoldable pub serial_of : Parts → Plan → Serial

@@ -1,4 +1,5 @@
--- The text of a report, as bytes: the journal of the plan's calls, the thread's name, its records, and how it ended.
+-- The text of a report, as bytes: the journal of the plan's calls, the thread's name, what it printed, its records, and how
+-- it ended.
 use Rattle.std.specs.Prelude.{ℕ, List, [], ◌∷◌, ◌++◌, Bool, true, false, codes, encode_utf8_all}
 use Rattle.std.specs.Fmt.{decimal}
 use Rattle.mon_code.specs.Programs.{Parts}
@@ -36,6 +37,14 @@ journal_text plan = use_line plan.tool plan.tool_name ++ stop_lines plan.sets_fi
 abbrev pub thread_line : Parts → ℕ → List ℕ
 thread_line p code = codes "thread 0 " ++ code_text p code ++ codes "\n"
 
+-- a text that was printed
+abbrev pub out_line : Parts → List ℕ → List ℕ
+out_line p text = codes "out " ++ encode_utf8_all (repr_of p.names (Value.Text text)) ++ codes "\n"
+
+abbrev pub outs_text : Parts → List (List ℕ) → List ℕ
+outs_text p [] = []
+outs_text p (text ∷ texts) = out_line p text ++ outs_text p texts
+
 -- what stands behind the code's name: the line, for LINE, which is the only event that is delivered
 abbrev pub arguments_text : Record → List ℕ
 arguments_text r = codes " " ++ decimal r.at
@@ -64,6 +73,6 @@ outcome_text p Outcome.Limit = codes "limit"
 abbrev pub end_line : Parts → ℕ → Outcome → List ℕ
 end_line p steps outcome = codes "end " ++ decimal steps ++ codes " " ++ outcome_text p outcome ++ codes "\n"
 
-abbrev pub report_text : Parts → Plan → List Record → ℕ → Outcome → List ℕ
-report_text p plan records steps outcome =
-    journal_text plan ++ thread_line p plan.code ++ records_text p records ++ end_line p steps outcome
+abbrev pub report_text : Parts → Plan → List (List ℕ) → List Record → ℕ → Outcome → List ℕ
+report_text p plan printed records steps outcome =
+    journal_text plan ++ thread_line p plan.code ++ outs_text p printed ++ records_text p records ++ end_line p steps outcome

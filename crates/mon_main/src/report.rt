@@ -10,6 +10,7 @@ use crate::read::{register_call, set_call};
 use mon_code::Program;
 use mon_recorders::{Outcome, Record, ThreadReport};
 use mon_values::print::repr;
+use mon_values::text::Text;
 use mon_values::value::{Exc, Value};
 use std::alloc::{AllocError, Global};
 
@@ -160,6 +161,35 @@ fn write_value(
     write_chars(out, text.chars())
 }
 
+/// A line for a text that was printed.
+fn write_out(
+    alloc: Global,
+    out: &mut String,
+    program: &Program,
+    printed: &Text,
+) -> Result<(), AllocError>
+    ensures { OnOk result (string_bytes out.new ≡ string_bytes out.old ++ spec.out_line program.now printed.now) }
+{
+    let value = Value::Text(printed.copy(alloc)?);
+    out.push_str("out ")?;
+    write_value(alloc, out, program, &value)?;
+    out.push_str("\n")
+}
+
+fn write_outs(
+    alloc: Global,
+    out: &mut String,
+    program: &Program,
+    printed: &[Text],
+) -> Result<(), AllocError>
+    ensures { OnOk result (string_bytes out.new ≡ string_bytes out.old ++ spec.outs_text program.now printed.now) }
+{
+    for text in printed {
+        write_out(alloc, out, program, text)?;
+    }
+    Ok(())
+}
+
 fn write_exc(
     alloc: Global,
     out: &mut String,
@@ -208,21 +238,21 @@ fn write_end(
     out.push_str("\n")
 }
 
-/// What is written of a thread that ran under a plan, as UTF-8. The thread printed nothing and disabled nothing: a report
-/// has no lines for either.
+/// What is written of a thread that ran under a plan, as UTF-8. The thread disabled nothing: a report has no lines for that
+/// so far.
 pub fn print_report(
     alloc: Global,
     program: &Program,
     plan: &Plan,
     report: &ThreadReport,
 ) -> Result<Vec<u8>, AllocError>
-    requires printed { report.now.printed ≡ [] }
     requires disables { report.now.disables ≡ [] }
-    ensures { IfOk result (λ v. v.items ≡ report_text program.now plan.now report.now.records report.now.steps report.now.outcome) }
+    ensures { IfOk result (λ v. v.items ≡ report_text program.now plan.now report.now.printed report.now.records report.now.steps report.now.outcome) }
 {
     let mut out = String::new(alloc);
     write_journal(alloc, &mut out, plan)?;
     write_thread(&mut out, program, plan.code)?;
+    write_outs(alloc, &mut out, program, report.printed.as_slice())?;
     write_records(&mut out, program, report.records.as_slice())?;
     write_end(alloc, &mut out, program, report)?;
     Ok(out.into_bytes())

@@ -101,7 +101,7 @@ fn values(alloc: Global, args: &[i64]) -> Result<Items<Value>, AllocError>
     Ok(values)
 }
 
-/// Runs the plan's thread over words of its own, and reports it. It prints nothing and disables nothing.
+/// Runs the plan's thread over words of its own, and reports it. It disables nothing.
 pub fn run_serial(
     alloc: Global,
     program: &Program,
@@ -111,8 +111,7 @@ pub fn run_serial(
     requires runs { AllRun program.now }
     requires fits { plan_fits program.now plan.now }
     requires bases { bases.now ≡ program.now.bases }
-    ensures serial { IfOk result (λ r. (r.records ≡ (serial_of program.now plan.now).records) × (r.steps ≡ (serial_of program.now plan.now).steps) × (r.outcome ≡ (serial_of program.now plan.now).outcome)) }
-    ensures printed { IfOk result (λ r. r.printed ≡ []) }
+    ensures serial { IfOk result (λ r. (r.printed ≡ (serial_of program.now plan.now).printed) × (r.records ≡ (serial_of program.now plan.now).records) × (r.steps ≡ (serial_of program.now plan.now).steps) × (r.outcome ≡ (serial_of program.now plan.now).outcome)) }
     ensures disables { IfOk result (λ r. r.disables ≡ []) }
 {
     let Some(code) = program.code(plan.code) else {

@@ -87,4 +87,4 @@ returns-in-Ok-advance-clause-serial c =
     let run : Ran p (board_of (words_of_run p plan.tool)) [] [] old new = subst (λ (z : Board × List Mark × List Mark). Ran p z.0 z.1 z.2 old new) (λ i. (board i, before i, after i)) c.in-Ok-advance.ensures.run in
     let wants = first_words-want p plan.tool c.first_board.ensures.checked c.requires.fits.tool small in
     let ran = serial_ran p plan.code code (map Int plan.args) plan.tool (board_of (words_of_run p plan.tool)) old new plan.steps call wants begins run ends c.in-Ok-advance.ensures.counted.1 ∙ sym (serial_found p plan code found) in
-    (c.finish.ensures.records ∙ ap (λ (s : Serial). s.records) ran, c.finish.ensures.steps ∙ ap (λ (s : Serial). s.steps) ran, c.finish.ensures.outcome ∙ ap (λ (s : Serial). s.outcome) ran)
+    (c.finish.ensures.printed ∙ ap (λ (s : Serial). s.printed) ran, c.finish.ensures.records ∙ ap (λ (s : Serial). s.records) ran, c.finish.ensures.steps ∙ ap (λ (s : Serial). s.steps) ran, c.finish.ensures.outcome ∙ ap (λ (s : Serial). s.outcome) ran)
