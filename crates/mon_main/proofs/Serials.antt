@@ -22,13 +22,14 @@ use Rattle.mon_words.proofs.Forms.{put, cell_of-normal}
 use Rattle.mon_words.proofs.Clearing.{need_most}
 use Rattle.mon_board.specs.PlainViews.{other_marks}
 use Rattle.mon_recorders.specs.declared.record.Record.{Record}
-use Rattle.mon_machine.specs.Step.{State, start, goes}
-use Rattle.mon_machine.specs.Run.{Progress, Ran, Goes, after_steps, steps_done, outcome_of, records_of}
+use Rattle.mon_machine.specs.State.{State, start, goes}
+use Rattle.mon_machine.specs.Run.{Progress, Ran, Goes, after_steps, steps_done, outcome_of, records_of, printed_by}
 use Rattle.mon_machine.specs.Serial.{line_records, HasLineWants, of_locations, of_codes}
 use Rattle.mon_machine.specs.Laws.{IsCall}
 use Rattle.mon_machine.proofs.Calls.{heard_by_wants}
 use Rattle.mon_machine.proofs.Runs.{steps_done_goes, steps_done_all, after_steps_all}
 use Rattle.mon_machine.proofs.Heard.{line_records_done}
+use Rattle.mon_machine.proofs.Printed.{printed_done}
 use Rattle.mon_machine.proofs.Numbers.{wants_of_words}
 use Rattle.mon_values.specs.declared.value.Value.{Int}
 use Rattle.mon_interp.specs.declared.thread.Stop.{Stop}
@@ -38,9 +39,9 @@ use Rattle.mon_main.specs.Plans.{parameters_of}
 use Rattle.mon_main.specs.Serial.{serial_from, serial_in, serial_of, line_word, words_of_run}
 
 -- a thread that did what it could of so many steps, over words that want LINE for one tool, did the serial run
-pub serial_ran : (p : Parts) (k : ℕ) (c : Code) (args : List Value) (tool : ℕ) (b : Board) (old new : Progress) (steps : ℕ) → IsCall p k c args → HasLineWants p tool b → old ≡ record { state = start c k args; records = []; steps = 0 }
+pub serial_ran : (p : Parts) (k : ℕ) (c : Code) (args : List Value) (tool : ℕ) (b : Board) (old new : Progress) (steps : ℕ) → IsCall p k c args → HasLineWants p tool b → old ≡ record { state = start c k args; printed = []; records = []; steps = 0 }
     → Ran p b [] [] old new → (goes new.state.mode ≡ false) ⊎ (new.steps ≡ old.steps + steps) → new.steps ≤ old.steps + steps
-    → record { printed = []; records = new.records; steps = new.steps; outcome = outcome_of new.state.mode } ≡ serial_from p tool steps (start c k args)
+    → record { printed = new.printed; records = new.records; steps = new.steps; outcome = outcome_of new.state.mode } ≡ serial_from p tool steps (start c k args)
 serial_ran p k c args tool b old new steps call wants begins r ends few =
     let s : State = start c k args in
     let n : ℕ = length r.positions in
@@ -64,8 +65,11 @@ serial_ran p k c args tool b old new steps call wants begins r ends few =
     ∙ ap (λ m. records_of p b [] m old.state r.positions) first ∙ ap (λ (x : State). records_of p b [] 0 x r.positions) at
     ∙ (heard_by_wants p k c args call tool b wants).whole_run 0 r.positions in
     let records : new.records ≡ line_records p tool 0 s steps = heard ∙ ap (λ m. line_records p tool 0 s m) (sym done.0) ∙ line_records_done p tool 0 s steps in
+    let printed : new.printed ≡ printed_by p s steps
+    = r.printed ∙ ap (λ (x : Progress). x.printed ++ printed_by p x.state n) begins
+    ∙ ap (λ m. printed_by p s m) (sym done.0) ∙ printed_done p s steps in
     let outcome : outcome_of new.state.mode ≡ outcome_of (after_steps p s steps).mode = ap (λ (x : State). outcome_of x.mode) (there ∙ sym done.1) in
-    λ i. record { printed = []; records = records i; steps = (count ∙ sym done.0) i; outcome = outcome i }
+    λ i. record { printed = printed i; records = records i; steps = (count ∙ sym done.0) i; outcome = outcome i }
 
 -- the parts of a word whose live bits are all 1
 word_parts : (place base want : ℕ) → place < 256 → base < 256 → want < 16777216 → let n = place + base * 256 + want * 65536 + 16777215 * 1099511627776 in (n / 65536 % 16777216 ≡ want) × (n / 1099511627776 ≡ 16777215) × (n / 256 % 256 ≡ base)

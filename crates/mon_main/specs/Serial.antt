@@ -7,8 +7,8 @@ use Rattle.mon_code.specs.Programs.{Parts}
 use Rattle.mon_words.specs.Words.{word_of, normal}
 use Rattle.mon_recorders.specs.declared.record.Record.{Record}
 use Rattle.mon_recorders.specs.declared.report.Outcome.{Outcome}
-use Rattle.mon_machine.specs.Step.{State, start}
-use Rattle.mon_machine.specs.Run.{after_steps, steps_done, outcome_of}
+use Rattle.mon_machine.specs.State.{State, start}
+use Rattle.mon_machine.specs.Run.{after_steps, steps_done, printed_by, outcome_of}
 use Rattle.mon_machine.specs.Serial.{line_records, of_codes}
 use Rattle.mon_main.specs.declared.plan.Plan.{Plan}
 
@@ -21,7 +21,7 @@ pub record Serial : Type 0 where
 -- at most so many steps from a state
 abbrev pub serial_from : Parts → ℕ → ℕ → State → Serial
 serial_from p tool steps s = record {
-  printed = [];
+  printed = printed_by p s steps;
   records = line_records p tool 0 s steps;
   steps = steps_done p s steps;
   outcome = outcome_of (after_steps p s steps).mode;

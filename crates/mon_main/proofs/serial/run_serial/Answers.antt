@@ -4,7 +4,7 @@ use Rattle.std.proofs.lemmas.List.{length-map}
 use Rattle.mon_values.specs.declared.value.Value.{Value, Int}
 use Rattle.mon_code.specs.declared.program.Code.{Code}
 use Rattle.mon_code.specs.Programs.{Parts}
-use Rattle.mon_machine.specs.Step.{start, goes}
+use Rattle.mon_machine.specs.State.{start, goes}
 use Rattle.mon_machine.specs.Run.{Progress, Ran}
 use Rattle.mon_machine.specs.Laws.{IsCall}
 use Rattle.mon_machine.proofs.Fitting.{checked_code}
@@ -69,9 +69,9 @@ returns-in-Ok-advance-clause-serial c =
     let call : IsCall p plan.code code (map Int plan.args) = record { checked = c.first_board.ensures.checked; runs = c.requires.runs; found = found; count = length-map plan.args Int ∙ count } in
     let old : Progress = c.in_ok-thread.thread.progress in
     let new : Progress = c.advance.new.self.progress in
-    let begins : old ≡ record { state = start code plan.code (map Int plan.args); records = []; steps = 0 }
+    let begins : old ≡ record { state = start code plan.code (map Int plan.args); printed = []; records = []; steps = 0 }
     = ap (λ (t : ThreadView). t.progress) c.in_ok-thread.ensures
-    ∙ ap (λ (l : List Value). let x : Progress = record { state = start code plan.code l; records = []; steps = 0 } in x) (arguments_of _ _ _ _ c.as_slice-2.ensures c.in_ok-args.ensures c.as_slice.ensures) in
+    ∙ ap (λ (l : List Value). let x : Progress = record { state = start code plan.code l; printed = []; records = []; steps = 0 } in x) (arguments_of _ _ _ _ c.as_slice-2.ensures c.in_ok-args.ensures c.as_slice.ensures) in
     let ends : (goes new.state.mode ≡ false) ⊎ (new.steps ≡ old.steps + plan.steps)
     = stops c.in-Ok-advance.field-0 (λ e. (c.in-Ok-advance.ensures.spent (ap (λ (s : Stop). Ok s) e)).1) (λ e. c.in-Ok-advance.ensures.ended (ap (λ (s : Stop). Ok s) e)) in
     let t : ℕ = c.try_enter.new.self.thread in
