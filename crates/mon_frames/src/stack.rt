@@ -129,7 +129,7 @@ impl Frames {
     }
 
     /// Pushes the frame of a plain call of a code with this number.
-    fn enter(&mut self, code: &Code, number: u16, args: &[Value]) -> Result<(), AllocError>
+    pub fn enter(&mut self, code: &Code, number: u16, args: &[Value]) -> Result<(), AllocError>
         requires { length self.old.calls < spec.most_frames }
         ensures ok { OnOk result (self.new ≡ spec.on_top self.old (called code.now number args.now) Origin.Plain) }
         ensures err { OnErr result (self.new ≡ self.old) }

@@ -11,6 +11,7 @@ use Rattle.mon_words.specs.History.{cell_at}
 use Rattle.mon_recorders.specs.Happenings.{Kind, Local, Global, Ancillary}
 use Rattle.mon_machine.specs.Laws.{is_line_kind}
 use Rattle.mon_frames.specs.declared.frame.Frame.{Frame}
+use Rattle.mon_frames.specs.Views.{FramesView}
 use Rattle.mon_machine.specs.Step.{executed}
 use Rattle.mon_machine.specs.Run.{is_heard, heard}
 use Rattle.mon_machine.proofs.Heard.{LineAlone, is_heard-line_alone, heard_executed, line_events_same}
@@ -25,9 +26,10 @@ cell_hears-line_alone c = record { others = others }
     others (Ancillary location) t e = refl
 
 -- what a board lets through of an instruction is what the cell of its location does
-pub executed_by_cell : (b : Board) (i : ℕ) (p : Parts) (c : Code) (op : Op) (l : Location) (f : Frame) → heard (is_heard b) i (executed p c op l f).events ≡ heard (cell_hears (cell_at b (c.first + f.index))) i (executed p c op l f).events
-executed_by_cell b i p c op l f =
+pub executed_by_cell : (b : Board) (i : ℕ) (p : Parts) (c : Code) (op : Op) (l : Location) (f : Frame) (v : FramesView)
+    → heard (is_heard b) i (executed p c op l f v).events ≡ heard (cell_hears (cell_at b (c.first + f.index))) i (executed p c op l f v).events
+executed_by_cell b i p c op l f v =
     let cell : Cell = cell_at b (c.first + f.index) in
-    heard_executed (is_heard b) i p c op l f (is_heard-line_alone b)
+    heard_executed (is_heard b) i p c op l f v (is_heard-line_alone b)
     ∙ line_events_same (is_heard b) (cell_hears cell) i f (c.first + f.index) l.line f.line (λ t h. refl)
-    ∙ sym (heard_executed (cell_hears cell) i p c op l f (cell_hears-line_alone cell))
+    ∙ sym (heard_executed (cell_hears cell) i p c op l f v (cell_hears-line_alone cell))

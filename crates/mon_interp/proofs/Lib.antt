@@ -1,5 +1,15 @@
-pub mod Heard
 pub mod Answered
+pub mod Builtins
+pub mod Globals
+pub mod Heard
+pub mod Instructing
+pub mod Iterated
+pub mod Matching
+pub mod Performing
 pub mod Results
-pub mod Steps
 pub mod Runs
+pub mod Settling
+pub mod Standing
+pub mod Steps
+pub mod Taking
+pub mod Unpacking

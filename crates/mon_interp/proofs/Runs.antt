@@ -8,9 +8,11 @@ use Rattle.mon_words.specs.declared.history.Mark.{Mark}
 use Rattle.mon_words.specs.History.{after, puts, offs, Begins}
 use Rattle.mon_words.specs.Told.{Told, Sees, Loads}
 use Rattle.mon_recorders.specs.declared.record.Record.{Record}
-use Rattle.mon_machine.specs.Step.{State, Step, step, goes}
-use Rattle.mon_machine.specs.Run.{Progress, Ran, Goes, Between, after_steps, records_of, heard, is_heard}
+use Rattle.mon_machine.specs.State.{State, goes}
+use Rattle.mon_machine.specs.Step.{Step, step}
+use Rattle.mon_machine.specs.Run.{Progress, Ran, Goes, Between, after_steps, records_of, printed_by, heard, is_heard}
 use Rattle.mon_machine.proofs.Runs.{after_steps_none, one_more, goes_none, goes_one_more}
+use Rattle.mon_machine.proofs.Printed.{printed_none, printed_last}
 use Rattle.mon_interp.specs.Machines.{Stepped}
 
 pub begins_refl : (xs : List Mark) → Begins xs xs
@@ -79,6 +81,7 @@ ran_none p first marks x = record {
   between = omega arith;
   goes = goes_none p x.state;
   state = sym (after_steps_none p x.state);
+  printed = sym (append-nil x.printed) ∙ ap (λ (l : List (List ℕ)). x.printed ++ l) (sym (printed_none p x.state));
   records = sym (append-nil x.records);
   steps = omega arith;
 }
@@ -97,6 +100,10 @@ ran_more {p} {first} {before} {middle} {later} {old} {now} {new} r a on t =
       between = between_more (length before) positions (length middle) (length later) r.between grown;
       goes = subst (λ n. Goes p old.state n) (sym (length-append positions (length later ∷ []))) (goes_one_more p old.state (length positions) r.goes (subst (λ (s : State). goes s.mode ≡ true) r.state on));
       state = t.state ∙ ap (λ (s : State). (step p s).after) r.state ∙ sym (after_steps_more p old.state positions (length later));
+      printed = t.printed ∙ ap (λ (l : List (List ℕ)). l ++ (step p now.state).printed) r.printed
+          ∙ append_assoc old.printed (printed_by p old.state (length positions)) (step p now.state).printed
+          ∙ ap (λ (s : State). old.printed ++ (printed_by p old.state (length positions) ++ (step p s).printed)) r.state
+          ∙ ap (λ (l : List (List ℕ)). old.printed ++ l) (sym (printed_last p old.state (length positions)) ∙ ap (λ n. printed_by p old.state n) (sym (length-append positions (length later ∷ []))));
       records = t.records ∙ ap (λ (l : List Record). l ++ heard (is_heard (after first later)) now.steps (step p now.state).events) r.records
           ∙ append_assoc old.records (records_of p first middle old.steps old.state positions) (heard (is_heard (after first later)) now.steps (step p now.state).events)
           ∙ ap (λ (l : List Record). old.records ++ l) (sym (records_of_more p first later old.steps old.state positions (length later)

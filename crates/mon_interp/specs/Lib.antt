@@ -1,3 +1,4 @@
 pub mod Heard
 pub mod Machines
+pub mod Moving
 pub mod Threads

@@ -3,7 +3,7 @@ use Rattle.std.specs.Prelude.{◌≡◌, ℕ, ℤ, ◌==◌, Bool, false, List, 
 use Rattle.mon_values.specs.declared.value.Value.{Value}
 use Rattle.mon_code.specs.declared.program.Code.{Code}
 use Rattle.mon_code.specs.Programs.{Parts, code_named}
-use Rattle.mon_machine.specs.Step.{start}
+use Rattle.mon_machine.specs.State.{start}
 use Rattle.mon_machine.specs.Run.{Progress}
 use Rattle.mon_interp.specs.declared.thread.EntryFault.{EntryFault}
 use Rattle.mon_interp.specs.declared.thread.EntryFault.TheVariants.{NoFunction, WrongCount, Memory}
@@ -15,7 +15,7 @@ pub record ThreadView : Type 0 where
 
 -- a thread that calls a code of this number
 abbrev pub beginning : Code → ℕ → List Value → ThreadView
-beginning c number args = record { progress = record { state = start c number args; records = []; steps = 0 }; failed = false }
+beginning c number args = record { progress = record { state = start c number args; printed = []; records = []; steps = 0 }; failed = false }
 
 abbrev pub code_due : ℕ → Option Code → List Value → Result ThreadView EntryFault
 code_due number None args = Err NoFunction

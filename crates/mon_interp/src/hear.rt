@@ -3,7 +3,7 @@
 ghost use Rattle.std.specs.Prelude.{◌≡◌, ◌++◌, OnOk, ℕ};
 ghost use Rattle.mon_events.specs.declared.event.Slot.TheVariants as slot;
 ghost use Rattle.mon_words.specs.Words.{cell_of, is_enabled};
-ghost use Rattle.mon_machine.specs.Step.{line_events, line_after};
+ghost use Rattle.mon_machine.specs.Events.{line_events};
 ghost use Rattle.mon_machine.specs.Run.{records_for, heard};
 ghost use Rattle.mon_interp.specs.Heard.{cell_hears, line_record};
 
@@ -64,15 +64,5 @@ pub fn hear_line(
                 hear(alloc, records, word, step, frame.code, line)
             }
         }
-    }
-}
-
-/// The line of the last executed instruction that has one.
-pub fn later_line(line: Option<u32>, last: Option<u32>) -> Option<u32>
-    ensures { result ≡ line_after line last }
-{
-    match line {
-        None => last,
-        Some(line) => Some(line),
     }
 }

@@ -2,11 +2,25 @@
 //! words let through.
 #![tactic(auto)]
 
-mod execute;
+mod answer;
+mod call;
+mod done;
+mod global;
+mod handling;
 mod hear;
+mod iterate;
+mod jump;
+mod load;
 mod machine;
+mod operate;
+mod operator;
+mod perform;
+mod sequence;
+mod settle;
+mod step;
+mod thread;
+
 #[cfg(test)]
 mod tests;
-mod thread;
 
 pub use thread::{AdvanceFault, EntryFault, Stop, Thread};

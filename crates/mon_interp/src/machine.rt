@@ -1,28 +1,43 @@
 //! The interpreter's steps.
 
-ghost use Rattle.std.specs.Prelude.{◌≡◌};
+ghost use Rattle.std.specs.Prelude.{◌≡◌, ◌++◌, OnOk};
 ghost use Rattle.mon_machine.specs.Run as run;
+ghost use Rattle.mon_interp.specs.Moving.{texts};
 
-use crate::execute::execute;
-use crate::hear::{hear_line, later_line};
+use crate::hear::hear_line;
+use crate::settle::unwind;
+use crate::step::instruct;
 use mon_code::{Code, Location, Program};
 use mon_events::{Op, op_of_number};
-use mon_frames::Frame;
+use mon_frames::Frames;
 use mon_machine::Mode;
 use mon_recorders::{Outcome, Record, ThreadReport};
+use mon_values::text::Text;
+use mon_values::value::Exc;
 use mon_words::{Handle, unpack};
 use sqlite_items::Items;
 use std::alloc::{AllocError, Global};
 use std::mem;
 
-/// A thread's frame and mode, and what it has recorded.
+/// A thread's frames and mode, what it has printed, and what was recorded of it.
 #[derive(Drop)]
 pub struct Machine {
     pub alloc: Global,
-    pub frame: Frame,
+    pub frames: Frames,
     pub mode: Mode,
+    pub printed: Items<Text>,
     pub records: Items<Record>,
     pub steps: u64,
+}
+
+// Adds a text, if there is one, to those that were printed.
+fn add_text(printed: &mut Items<Text>, text: Option<Text>) -> Result<(), AllocError>
+    ensures { OnOk result (printed.new ≡ printed.old ++ texts text) }
+{
+    if let Some(text) = text {
+        printed.push(text)?;
+    }
+    Ok(())
 }
 
 // Puts a value in the place of another.
@@ -33,18 +48,23 @@ fn put<T: Drop>(place: &mut T, value: T)
 }
 
 impl Machine {
-    ghost use Rattle.std.specs.Prelude.{◌≡◌, ◌+◌, ◌<◌, ◌≤◌, ◌^◌, map, true, ℕ, Bool, IsTrue, OnOk, IfOk, []};
+    ghost use Rattle.std.specs.Prelude.{◌≡◌, ◌+◌, ◌<◌, ◌≤◌, ◌^◌, Some, map, true, ℕ, Bool, IsTrue, OnOk, IfOk, []};
     ghost use Rattle.mon_words.specs.Words.{cell_of};
-    ghost use Rattle.mon_words.specs.History.{after, base_in};
-    ghost use Rattle.mon_words.specs.Told.{Sees};
+    ghost use Rattle.mon_words.specs.History.{after, cell_at, base_in};
+    ghost use Rattle.mon_words.specs.Told.{Told, Sees};
     ghost use Rattle.mon_code.specs.Programs.{Parts};
-    ghost use Rattle.mon_machine.specs.Step.{step, executed, stuck, goes};
+    ghost use Rattle.mon_frames.specs.declared.frame.Frame.{Frame as FrameOf};
+    ghost use Rattle.mon_frames.specs.Views.{top_of};
+    ghost use Rattle.mon_words.specs.declared.history.Board.{Board as BoardOf};
+    ghost use Rattle.mon_machine.specs.State.{goes};
+    ghost use Rattle.mon_machine.specs.Step.{step, executed, unwinds, stuck};
     ghost use Rattle.mon_machine.specs.Run.{is_heard, Ran, outcome_of};
     ghost use Rattle.mon_machine.specs.declared.mode.Mode.TheVariants.{Run, Unwind, Ended};
     ghost use Rattle.mon_recorders.specs.declared.report.Outcome.TheVariants.{Raised};
     ghost use Rattle.mon_recorders.specs.Happenings.{Kind};
     ghost use Rattle.mon_interp.specs.Heard.{cell_hears};
     ghost use Rattle.mon_interp.specs.Machines.{progress_of, state_of, Stepped};
+    ghost use Rattle.mon_interp.specs.Moving.{Stands};
 
     /// Whether it goes on.
     pub fn goes(&self) -> bool
@@ -54,17 +74,18 @@ impl Machine {
     }
 
     /// One instruction, at a location with this word.
-
+    #[tactic(auto, using(crate::proofs::Standing::one_stands))]
     fn step_at(
         &mut self,
+        program: &Program,
         code: &Code,
         word: u64,
         op: Op,
         location: Location,
     ) -> Result<(), AllocError>
-        requires inside { self.old.frame.index < 65536 }
+        requires stands { Stands self.old.frames.calls }
         requires counted { self.old.steps < 2 ^ 63 }
-        ensures step { OnOk result ((p : Parts) → Stepped (executed p code.now op location self.old.frame) (cell_hears (cell_of word)) (progress_of self.old) (progress_of self.new)) }
+        ensures step { OnOk result ((f : FrameOf) → top_of self.old.frames.calls ≡ Some f → Stepped (executed program.now code.now op location f self.old.frames) (cell_hears (cell_of word)) (progress_of self.old) (progress_of self.new)) }
         ensures counted { (self.old.steps ≤ self.new.steps) × (self.new.steps ≤ self.old.steps + 1) }
     {
         hear_line(
@@ -72,26 +93,26 @@ impl Machine {
             &mut self.records,
             word,
             self.steps,
-            &self.frame,
+            self.frames.top(),
             location.line,
         )?;
-        self.frame.line = later_line(location.line, self.frame.line);
-        let mode = execute(self.alloc, &mut self.frame, code, op, location.argument)?;
-        put(&mut self.mode, mode);
+        let went = instruct(self.alloc, program, code, &mut self.frames, op, location)?;
+        put(&mut self.mode, went.mode);
+        add_text(&mut self.printed, went.printed)?;
         self.steps += 1;
         Ok(())
     }
 
     fn get_stuck(&mut self)
         requires { self.old.steps < 2 ^ 63 }
-        ensures step { (hears : Kind → ℕ → Bool) → Stepped (stuck self.old.frame) hears (progress_of self.old) (progress_of self.new) }
+        ensures step { (hears : Kind → ℕ → Bool) → Stepped (stuck self.old.frames) hears (progress_of self.old) (progress_of self.new) }
         ensures steps { self.new.steps ≡ self.old.steps + 1 }
     {
         put(&mut self.mode, Mode::Stuck);
         self.steps += 1;
     }
 
-    /// One instruction, whatever stands at its location.
+    /// One instruction, whatever stands at the location of the innermost frame.
     fn run_step<H: Handle>(&mut self, program: &Program, handle: &mut H) -> Result<(), AllocError>
         requires attached { IsTrue (H.told handle.old).attached }
         requires bases { map base_in (H.told handle.old).first.cells ≡ program.now.bases }
@@ -102,8 +123,13 @@ impl Machine {
         ensures sees { Sees (H.told handle.old) (H.told handle.new) }
         ensures rest { H.rest handle.new ≡ H.rest handle.old }
     {
-        let at = self.frame.index;
-        match program.code(self.frame.code) {
+        if self.frames.depth() == 0 {
+            self.get_stuck();
+            return Ok(());
+        }
+        let frame = self.frames.top();
+        let at = frame.index;
+        match program.code(frame.code) {
             None => {
                 self.get_stuck();
                 Ok(())
@@ -120,11 +146,27 @@ impl Machine {
                             self.get_stuck();
                             Ok(())
                         }
-                        Some(op) => self.step_at(code, word, op, *location),
+                        Some(op) => self.step_at(program, code, word, op, *location),
                     }
                 }
             },
         }
+    }
+
+    /// One step of the search for a handler of an exception.
+    fn unwind_step(&mut self, program: &Program, exc: Exc) -> Result<(), AllocError>
+        requires { self.old.steps < 2 ^ 63 }
+        ensures step { OnOk result ((b : BoardOf) → Stepped (unwinds program.now self.old.frames exc self.old.frames.calls) (is_heard b) (progress_of self.old) (progress_of self.new)) }
+        ensures counted { (self.old.steps ≤ self.new.steps) × (self.new.steps ≤ self.old.steps + 1) }
+    {
+        if self.frames.depth() == 0 {
+            self.get_stuck();
+            return Ok(());
+        }
+        let mode = unwind(program, &mut self.frames, exc)?;
+        put(&mut self.mode, mode);
+        self.steps += 1;
+        Ok(())
     }
 
     /// One step, in a mode that goes on.
@@ -141,11 +183,7 @@ impl Machine {
         let mode = mem::replace(&mut self.mode, Mode::Run);
         match mode {
             Mode::Run => self.run_step(program, handle),
-            Mode::Unwind(exc) => {
-                put(&mut self.mode, Mode::Ended(Outcome::Raised(exc)));
-                self.steps += 1;
-                Ok(())
-            }
+            Mode::Unwind(exc) => self.unwind_step(program, exc),
             Mode::Ended(_) | Mode::Stuck => unreachable!(),
         }
     }
@@ -181,18 +219,19 @@ impl Machine {
         ensures records { result.records ≡ self.records }
         ensures steps { result.steps ≡ self.steps }
         ensures outcome { result.outcome ≡ outcome_of self.mode }
-        ensures printed { result.printed ≡ [] }
+        ensures printed { result.printed ≡ self.printed }
         ensures disables { result.disables ≡ [] }
     {
         let Machine {
             alloc,
-            frame: _,
+            frames: _,
             mode,
+            printed,
             records,
             steps,
         } = self;
         ThreadReport {
-            printed: Items::new(alloc),
+            printed,
             records,
             disables: Items::new(alloc),
             steps,

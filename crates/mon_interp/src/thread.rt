@@ -4,7 +4,7 @@ ghost use Rattle.mon_interp.specs.declared.thread.EntryFault.TheVariants as entr
 
 use crate::machine::Machine;
 use mon_code::{Code, Program};
-use mon_frames::Frame;
+use mon_frames::Frames;
 use mon_machine::Mode;
 use mon_recorders::ThreadReport;
 use mon_values::value::Value;
@@ -59,8 +59,8 @@ pub enum Stop {
     Ended,
 }
 
-/// A thread of the interpreter. Contracts see where the plain machine stands, the records, the number of steps, and
-/// whether memory was short.
+/// A thread of the interpreter. Contracts see where the plain machine stands, what it printed, the records, the
+/// number of steps, and whether memory was short.
 #[derive(Drop)]
 pub struct Thread {
     machine: Machine,
@@ -70,8 +70,7 @@ pub struct Thread {
 impl Model for Thread {
     ghost use Rattle.std.specs.Prelude.{ℕ, List, Bool, refl};
     ghost use Rattle.std.specs.Coded.{code_by, coded×, coded_list, coded_ℕ, coded_bool};
-    ghost use Rattle.mon_frames.specs.declared.frame.Frame.{Frame as FrameOf};
-    ghost use Rattle.mon_frames.specs.contracts.frame.Frame as frame;
+    ghost use Rattle.mon_frames.specs.Views.{FramesView, view_code};
     ghost use Rattle.mon_machine.specs.declared.mode.Mode.{Mode as ModeOf};
     ghost use Rattle.mon_machine.specs.contracts.mode.Mode as mode;
     ghost use Rattle.mon_recorders.specs.declared.record.Record.{Record as RecordOf};
@@ -81,7 +80,7 @@ impl Model for Thread {
 
     ghost Value = { ThreadView };
 
-    ghost coded = { code_by ((FrameOf × ModeOf) × (List RecordOf × (ℕ × Bool))) (coded× (coded× frame.the_row.coded mode.the_row.coded) (coded× (coded_list a_record.the_row.coded) (coded× coded_ℕ coded_bool))) (λ t. ((t.progress.state.frame, t.progress.state.mode), (t.progress.records, (t.progress.steps, t.failed)))) (λ p. record { progress = record { state = record { frame = p.0.0; mode = p.0.1 }; records = p.1.0; steps = p.1.1.0 }; failed = p.1.1.1 }) (λ _. refl) };
+    ghost coded = { code_by ((FramesView × ModeOf) × (List (List ℕ) × (List RecordOf × (ℕ × Bool)))) (coded× (coded× view_code mode.the_row.coded) (coded× (coded_list (coded_list coded_ℕ)) (coded× (coded_list a_record.the_row.coded) (coded× coded_ℕ coded_bool)))) (λ t. ((t.progress.state.frames, t.progress.state.mode), (t.progress.printed, (t.progress.records, (t.progress.steps, t.failed))))) (λ p. record { progress = record { state = record { frames = p.0.0; mode = p.0.1 }; printed = p.1.0; records = p.1.1.0; steps = p.1.1.1.0 }; failed = p.1.1.1.1 }) (λ _. refl) };
 
     ghost view = { λ t. record { progress = progress_of t.machine; failed = t.failed } };
 }
@@ -90,7 +89,7 @@ impl Thread {
     ghost use Rattle.std.specs.Prelude.{◌≡◌, ◌+◌, ◌≤◌, length, map, true, false, not, IsTrue, OnOk, OnErr, IfOk, Ok, Err, []};
     ghost use Rattle.mon_words.specs.History.{base_in};
     ghost use Rattle.mon_words.specs.Told.{Sees};
-    ghost use Rattle.mon_machine.specs.Step.{goes};
+    ghost use Rattle.mon_machine.specs.State.{goes};
     ghost use Rattle.mon_machine.specs.Run.{Ran, outcome_of};
     ghost use Rattle.mon_interp.specs.Threads.{beginning, entry_due, AnswersEntry};
 
@@ -103,11 +102,13 @@ impl Thread {
     ) -> Result<Thread, AllocError>
         ensures { IfOk result (λ t. t ≡ beginning code.now number args.now) }
     {
-        let frame = Frame::called(alloc, code, number, args)?;
+        let mut frames = Frames::new(alloc);
+        frames.enter(code, number, args)?;
         let machine = Machine {
             alloc,
-            frame,
+            frames,
             mode: Mode::Run,
+            printed: Items::new(alloc),
             records: Items::new(alloc),
             steps: 0,
         };
@@ -196,7 +197,7 @@ impl Thread {
         ensures records { result.records ≡ self.progress.records }
         ensures steps { result.steps ≡ self.progress.steps }
         ensures outcome { result.outcome ≡ outcome_of self.progress.state.mode }
-        ensures printed { result.printed ≡ [] }
+        ensures printed { result.printed ≡ self.progress.printed }
         ensures disables { result.disables ≡ [] }
     {
         self.machine.report()

@@ -1,12 +1,12 @@
 -- What runs print, step by step.
-use Rattle.std.proofs.Common.{◌≡◌, ℕ, zero, suc, ◌+◌, Bool, true, false, List, [], ◌++◌, refl, sym, ap, ◌∙◌, add-one}
+use Rattle.std.proofs.Common.{◌≡◌, ℕ, zero, suc, ◌+◌, Bool, true, false, List, [], ◌++◌, refl, sym, ap, ◌∙◌, add-one, append_assoc, append-nil}
 use Rattle.std.specs.Prelude.{if◌then◌else◌}
 use Rattle.mon_code.specs.Programs.{Parts}
 use Rattle.mon_frames.specs.Views.{FramesView}
 use Rattle.mon_machine.specs.declared.mode.Mode.{Mode}
 use Rattle.mon_machine.specs.State.{State, goes}
 use Rattle.mon_machine.specs.Step.{step, in_mode}
-use Rattle.mon_machine.specs.Run.{steps_done, printed_by}
+use Rattle.mon_machine.specs.Run.{after_steps, steps_done, printed_by}
 use Rattle.mon_machine.proofs.Runs.{stands_still}
 
 pub printed_none : (p : Parts) (s : State) → printed_by p s 0 ≡ []
@@ -16,6 +16,18 @@ printed_none p s = refl
 pub printed_more : (p : Parts) (s : State) (n : ℕ) → printed_by p s (n + 1) ≡ (step p s).printed ++ printed_by p (step p s).after n
 unfolding printed_by
 printed_more p s n = rw add-one refl
+
+-- one step more at the end
+pub printed_last : (p : Parts) (s : State) (n : ℕ) → printed_by p s (n + 1) ≡ printed_by p s n ++ (step p (after_steps p s n)).printed
+unfolding printed_by after_steps
+printed_last p s zero = append-nil (step p s).printed
+printed_last p s (suc n) =
+    let here = (step p s).printed in
+    let t : State = (step p s).after in
+    printed_more p s (suc n)
+    ∙ ap (λ (k : ℕ). here ++ printed_by p t k) (sym (add-one n))
+    ∙ ap (λ (texts : List (List ℕ)). here ++ texts) (printed_last p t n)
+    ∙ sym (append_assoc here (printed_by p t n) (step p (after_steps p t n)).printed)
 
 nothing_printed : (p : Parts) (v : FramesView) (m : Mode) → goes m ≡ false → (in_mode p v m).printed ≡ []
 nothing_printed p v Mode.Run e = let h : true ≡ false = e in cc

@@ -5,4 +5,4 @@ mod laws;
 mod mode;
 
 pub use laws::{goes_on_by_one, heard_by_wants, line_marks, never_stuck};
-pub use mode::Mode;
+pub use mode::{Ending, Mode};
