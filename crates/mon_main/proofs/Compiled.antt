@@ -1,20 +1,16 @@
 -- What is answered to a module is its due answer.
-use Rattle.std.proofs.Common.{◌≡◌, ◌∙◌, ℕ, List, refl, sym, ap, subst, Bool, true, false, Result, Ok, Err, IfOk}
-use Rattle.std.specs.Prelude.{Option, Some, None, IsSome, IsTrue, slice_get, Vec}
-use Rattle.std.specs.declared.alloc.Global.{Global}
+use Rattle.std.proofs.Common.{◌≡◌, ◌∙◌, ℕ, List, refl, sym, ap, subst, Bool, true, false, Result, IfOk}
+use Rattle.std.specs.Prelude.{Option, Some, None, slice_get}
 use Rattle.mon_events.specs.declared.op.Op.{Op}
 use Rattle.mon_code.specs.Programs.{Parts, op_in}
 use Rattle.mon_parser.specs.declared.tree.Module.{Module}
-use Rattle.mon_compile.specs.Answered.{AnswersCompiled}
 use Rattle.mon_compile.specs.declared.fault.CompileFault.{CompileFault}
-use Rattle.mon_compile.specs.declared.fault.CompileFault.TheVariants as compile
 use Rattle.mon_compile.specs.Faults.{compile_fault}
 use Rattle.mon_compile.specs.Modules as modules
 use Rattle.mon_compile.specs.Simple.{is_simple, is_simple_op}
 use Rattle.mon_compile.proofs.SimpleOps.{simple_opcodes}
 use Rattle.mon_machine.specs.Laws.{runs, AllRun}
-use Rattle.mon_main.specs.Answer.{Answer, not_built, source, uncompiled, of_program, compiled, program_of, program_without, run_if, TellsPlan}
-use Rattle.mon_main.specs.Sources.{uncompiled_line}
+use Rattle.mon_main.specs.Answer.{Answer, not_built, uncompiled, of_program, compiled, program_of, program_without, run_if, TellsPlan}
 
 -- the machine runs the opcodes of simple modules
 op_runs : (op : Op) → is_simple_op op ≡ true → runs op ≡ true

@@ -1,4 +1,4 @@
-use Rattle.std.proofs.Common.{◌≡◌, ℕ, List, refl, sym, ap, subst, ◌∙◌, rules}
+use Rattle.std.proofs.Common.{◌≡◌, sym, subst, ◌∙◌, rules}
 use Rattle.std.specs.Prelude.{Option, Some, IsSome}
 use Rattle.mon_code.specs.Programs.{Parts}
 use Rattle.mon_main.specs.Answer.{program_of}
