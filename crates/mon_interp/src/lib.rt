@@ -18,9 +18,8 @@ mod perform;
 mod sequence;
 mod settle;
 mod step;
-mod thread;
-
 #[cfg(test)]
 mod tests;
+mod thread;
 
 pub use thread::{AdvanceFault, EntryFault, Stop, Thread};
