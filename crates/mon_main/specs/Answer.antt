@@ -1,6 +1,6 @@
 -- The answer to a command: a status, and the text that is written. It knows the words, what FILE is read as and the
 -- contents of PLAN, and no store.
-use Rattle.std.specs.Prelude.{◌≡◌, ℕ, Bool, true, false, List, Option, Some, None, ◌⊎◌, IsSome, codes}
+use Rattle.std.specs.Prelude.{◌≡◌, ℕ, List, Option, Some, None, ◌⊎◌, IsSome, codes}
 use Rattle.mon_code.specs.Programs.{Parts}
 use Rattle.mon_main.specs.Commands.{Replay, replay_of}
 use Rattle.mon_parser.specs.Texts.{Reading, ReadAs, Misspelled, Underived, Parsed}
@@ -9,7 +9,6 @@ use Rattle.mon_compile.specs.declared.fault.CompileFault.{CompileFault}
 use Rattle.mon_compile.specs.declared.fault.CompileFault.TheVariants as compile
 use Rattle.mon_compile.specs.Faults.{compile_fault}
 use Rattle.mon_compile.specs.Modules as modules
-use Rattle.mon_compile.specs.Simple.{is_simple}
 use Rattle.mon_main.specs.Outside.{Writes}
 use Rattle.mon_main.specs.Plans.{plan_of}
 use Rattle.mon_main.specs.Serial.{serial_of}
@@ -46,13 +45,9 @@ abbrev pub planned : Parts → Option Plan → Answer
 planned p None = not_built
 planned p (Some q) = record { status = Done; text = replayed p q }
 
--- the program of a module without a fault, where it is run: simple ones alone are so far
-abbrev pub run_if : Bool → Module → Option Parts
-run_if true m = Some (modules.compiled m)
-run_if false m = None
-
+-- the program of a module without a fault
 abbrev pub program_without : Option CompileFault → Module → Option Parts
-program_without None m = run_if (is_simple m) m
+program_without None m = Some (modules.compiled m)
 program_without (Some fault) m = None
 
 unfoldable pub program_of : Module → Option Parts
@@ -103,17 +98,17 @@ abbrev pub TellsPlan : Option Parts → Option (List ℕ) → List ℕ → Type 
 TellsPlan None told plan = Unit {0}
 TellsPlan (Some p) told plan = told ≡ Some plan
 
--- contents are told as far as a command needs them: those of FILE, and those of PLAN where FILE has a program that is run
+-- contents are told as far as a command needs them: those of FILE, and those of PLAN where FILE has a program
 abbrev pub Tells : Option Replay → (List ℕ → Option (List ℕ)) → Reading → List ℕ → Type 0
 Tells None holds reading plan = Unit {0}
 Tells (Some r) holds reading plan = TellsFile (holds r.file) reading × TellsPlan (program_in reading) (holds r.plan) plan
 
--- told contents have a program that is run
+-- told contents have a program
 abbrev pub HasProgram : Option (List ℕ) → Type 0
 HasProgram None = Unit {0}
 HasProgram (Some file) = (m : Module) × ReadAs file (Parsed m) × IsSome (program_of m)
 
--- a failed read of a command was that of FILE, or that of PLAN where FILE has a program that is run
+-- a failed read of a command was that of FILE, or that of PLAN where FILE has a program
 abbrev pub FailedRead : Option Replay → (List ℕ → Option (List ℕ)) → Option (List ℕ) → Type 0
 FailedRead None holds failed = ⊥
 FailedRead (Some r) holds failed = (failed ≡ Some r.file) ⊎ ((failed ≡ Some r.plan) × HasProgram (holds r.file))

@@ -17,7 +17,7 @@ use crate::source::{module, source_line, uncompiled_line};
 use crate::status::Status;
 use crate::store::{Store, StoreFault};
 use mon_code::Program;
-use mon_compile::{CompileFault, compile, is_simple};
+use mon_compile::{CompileFault, compile};
 use mon_parser::tree::Module;
 use std::alloc::{AllocError, Global};
 
@@ -99,7 +99,7 @@ fn replay<S: Store>(
     }
 }
 
-/// The reply of a module to PLAN, which is read only where the module has a program that is run.
+/// The reply of a module to PLAN, which is read only where the module has a program.
 fn compiled<S: Store>(
     alloc: Global,
     tree: &Module,
@@ -113,13 +113,7 @@ fn compiled<S: Store>(
     ensures has_program { IsErrOf result StoreFault.Failed → IsSome (spec.program_of tree.now) }
 {
     match compile(alloc, tree) {
-        Ok((program, bases)) => {
-            if is_simple(alloc, tree)? {
-                run(alloc, &program, bases.as_slice(), plan, store)
-            } else {
-                Ok(Reply::NotBuilt)
-            }
-        }
+        Ok((program, bases)) => run(alloc, &program, bases.as_slice(), plan, store),
         Err(CompileFault::NotBuilt(_)) => Ok(Reply::NotBuilt),
         Err(CompileFault::Memory) => Err(StoreFault::Memory),
         Err(fault) => Ok(Reply::Source(uncompiled_line(alloc, fault)?)),
