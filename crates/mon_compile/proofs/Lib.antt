@@ -22,7 +22,7 @@ pub mod Turns
 pub mod StatementHoles
 pub mod Clauses
 pub mod Loops
-pub mod SimpleOps
+pub mod PlainOps
 pub mod Parts
 pub mod Unrolled
 pub mod Bound

@@ -10,7 +10,6 @@ pub mod Faults
 pub mod Given
 pub mod Open
 pub mod Nodes
-pub mod Simple
 pub mod Bindings
 pub mod Clauses
 pub mod Earlier

@@ -21,7 +21,6 @@ mod scheme_laws;
 mod scope;
 mod settle;
 mod simple;
-mod simplicity;
 mod surroundings;
 mod tree_fault;
 mod unbuilt;
@@ -30,7 +29,6 @@ mod yields;
 pub use fault::CompileFault;
 pub use program::compile;
 pub use scheme_laws::{
-    code_has_labels_of_context, compiled_programs_are_checked, function_code_fits_depths,
-    simple_programs_have_simple_opcodes,
+    code_has_labels_of_context, compiled_programs_are_checked,
+    compiled_programs_have_no_generators, function_code_fits_depths,
 };
-pub use simplicity::is_simple;

@@ -1,7 +1,6 @@
 //! Laws of the compile scheme, for every tree.
 
-ghost use Rattle.mon_compile.specs.SchemeLaws.{FitsDepths, HasLabelsOfContext, ProgramsAreChecked};
-ghost use Rattle.mon_compile.specs.Simple.{SimpleOpcodes};
+ghost use Rattle.mon_compile.specs.SchemeLaws.{FitsDepths, HasLabelsOfContext, HasNoGenerators, ProgramsAreChecked};
 
 /// The code of a block has the labels of its context and no others, and its length depends on none of them.
 pub fn code_has_labels_of_context()
@@ -19,7 +18,7 @@ pub fn compiled_programs_are_checked()
     ensures { ProgramsAreChecked }
 {}
 
-/// The program of a simple module without a fault has the opcodes of such modules alone.
-pub fn simple_programs_have_simple_opcodes()
-    ensures { SimpleOpcodes }
+/// The program of a module without a fault has no opcode of generators, since a `yield` is not built yet.
+pub fn compiled_programs_have_no_generators()
+    ensures { HasNoGenerators }
 {}

@@ -7,19 +7,20 @@ use Rattle.mon_parser.specs.declared.tree.Module.{Module}
 use Rattle.mon_compile.specs.declared.fault.CompileFault.{CompileFault}
 use Rattle.mon_compile.specs.Faults.{compile_fault}
 use Rattle.mon_compile.specs.Modules as modules
+use Rattle.mon_compile.specs.SchemeLaws.{is_plain_op}
+use Rattle.mon_compile.proofs.PlainOps.{no_generators}
 use Rattle.mon_machine.specs.Laws.{runs, AllRun}
 use Rattle.mon_main.specs.Answer.{Answer, uncompiled, of_program, compiled, program_of, program_without, TellsPlan}
-use Rattle.mon_main.proofs.BuiltOps.{built_opcodes, is_built_op}
 
 -- the machine runs all opcodes but those of generators
-op_runs : (op : Op) → is_built_op op ≡ true → runs op ≡ true
+op_runs : (op : Op) → is_plain_op op ≡ true → runs op ≡ true
 op_runs Op.ReturnGenerator h = cc
 op_runs Op.YieldValue h = cc
 op_runs _ h = refl
 
 pub module_runs : (m : Module) (p : Parts) → compile_fault m ≡ None → p ≡ modules.compiled m → AllRun p
 module_runs m p fault e location op at =
-    op_runs op (built_opcodes m fault location op (ap (λ (q : Parts). op_in (slice_get q.bases location)) (sym e) ∙ at))
+    op_runs op (no_generators m fault location op (ap (λ (q : Parts). op_in (slice_get q.bases location)) (sym e) ∙ at))
 
 pub program_is : (m : Module) (p : Parts) → compile_fault m ≡ None → p ≡ modules.compiled m → program_of m ≡ Some p
 unfolding program_of

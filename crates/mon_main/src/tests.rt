@@ -1,3 +1,4 @@
+mod runs;
 mod sources;
 
 use crate::{
@@ -258,9 +259,8 @@ fn is_not_built(alloc: Global, program: &str, plan: &str) -> Result<bool, AllocE
 fn a_program_that_is_not_built_is_said(rt: HostRuntime) -> Result<(), Fail> {
     let alloc = rt.alloc();
     assert_eq!(rt; Status::NotBuilt.code(), 8);
-    let calls = "def a(n):\n    return b(n) + 1\ndef b(n):\n    return n * 2\n";
-    assert!(rt; is_not_built(alloc, calls, LOOP_PLAN)?);
-    assert!(rt; is_not_built(alloc, "", LOOP_PLAN)?);
+    let generator = "def f(n):\n    yield n\n";
+    assert!(rt; is_not_built(alloc, generator, LOOP_PLAN)?);
     Ok(())
 }
 
@@ -269,6 +269,8 @@ fn a_plan_that_is_not_built_is_said(rt: HostRuntime) -> Result<(), Fail> {
     let alloc = rt.alloc();
     assert!(rt; is_not_built(alloc, LOOP, "")?);
     assert!(rt; is_not_built(alloc, LOOP, "steps 100\n")?);
+    assert!(rt; is_not_built(alloc, "", LOOP_PLAN)?);
+    assert!(rt; is_not_built(alloc, "def g(n): return n\n", LOOP_PLAN)?);
     Ok(())
 }
 

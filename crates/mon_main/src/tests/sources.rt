@@ -101,15 +101,13 @@ fn a_fault_of_a_module_is_said(rt: HostRuntime) -> Result<(), Fail> {
 }
 
 #[test]
-fn a_module_that_is_not_simple_is_not_built(rt: HostRuntime) -> Result<(), Fail> {
+fn a_yield_or_a_finally_is_not_built(rt: HostRuntime) -> Result<(), Fail> {
     let alloc = rt.alloc();
-    let rows: [&str; 6] = [
+    let rows: [&str; 4] = [
         "def f(n):\n    yield n\n",
         "def f(n):\n    try:\n        pass\n    finally:\n        pass\n",
-        "def f(n):\n    if n:\n        return n\n",
-        "def f(n):\n    return g\n",
-        "x = 1\ndef f(n):\n    return n\n",
-        "def f(n):\n    n += 1\n    return n\n",
+        "def f(n):\n    return n\ndef g():\n    x = (yield)\n",
+        "def f(n):\n    while n:\n        try:\n            n -= 1\n        finally:\n            pass\n",
     ];
     for program in rows {
         assert!(rt; is_not_built(alloc, program, LOOP_PLAN)?, "of {program:?}");
@@ -127,15 +125,6 @@ fn a_text_has_at_most_262144_bytes(rt: HostRuntime) -> Result<(), Fail> {
     let mut whole = vec![in alloc; b'\n'; 262_143]?;
     whole.push(b'$')?;
     assert!(rt; has_fault(alloc, whole.as_slice(), "source BadChar 262144\n")?);
-    Ok(())
-}
-
-#[test]
-fn two_functions_are_not_built(rt: HostRuntime) -> Result<(), Fail> {
-    let alloc = rt.alloc();
-    let program = "def f(n):\n    return n\ndef g(n):\n    return n\n";
-    assert!(rt; is_not_built(alloc, program, LOOP_PLAN)?);
-    assert_eq!(rt; answer_to(alloc, program.as_bytes())?.0, Status::NotBuilt);
     Ok(())
 }
 
