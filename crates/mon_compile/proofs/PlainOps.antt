@@ -1,12 +1,11 @@
 -- The program of a module without a fault has no opcode of generators.
 use Rattle.std.proofs.Common.{◌≡◌, ℕ, zero, suc, Bool, true, false, List, [], ◌∷◌, ◌++◌, length, map, refl, sym, ap, ◌∙◌, subst}
-use Rattle.std.specs.Prelude.{Some, None, slice_get}
+use Rattle.std.specs.Prelude.{Some, slice_get}
 use Rattle.std.proofs.lemmas.Option.{same_Some}
 use Rattle.mon_events.specs.Ops.{op_of, number_of}
 use Rattle.mon_events.specs.declared.op.Op.{Op}
 use Rattle.mon_code.specs.Programs.{op_in}
 use Rattle.mon_parser.specs.declared.tree.Function.{Function}
-use Rattle.mon_parser.specs.declared.tree.Module.{Module}
 use Rattle.mon_compile.specs.declared.assembly.Argument.{Argument}
 use Rattle.mon_compile.specs.declared.assembly.Instruction.{Instruction}
 use Rattle.mon_compile.specs.Faults.{unbuilt_in, finally_lines_of}

@@ -1,9 +1,8 @@
 -- What is due where an operator answered.
-use Rattle.std.proofs.Common.{◌≡◌, refl, sym, ap}
+use Rattle.std.proofs.Common.{◌≡◌, ap}
 use Rattle.std.specs.Prelude.{ℕ, Option, Result, Ok, Err}
 use Rattle.mon_values.specs.declared.value.Value.{Value}
 use Rattle.mon_values.specs.declared.fault.Trouble.{Trouble}
-use Rattle.mon_values.specs.declared.fault.ArithFault.{ArithFault}
 use Rattle.mon_values.specs.declared.fault.ArithFault.TheVariants as fault
 use Rattle.mon_values.specs.declared.operator.ArithOp.{ArithOp}
 use Rattle.mon_values.specs.declared.fault.IndexFault.TheVariants as index

@@ -1,13 +1,12 @@
 -- A builtin leaves the call stack as it is.
-use Rattle.std.proofs.Common.{◌≡◌, ℕ, ◌+◌, ◌<◌, ◌==◌, Bool, true, false, List, [], ◌∷◌, refl, sym, ap, ◌∙◌, subst, arith}
-use Rattle.std.specs.Prelude.{Option, Some, None, Result, Ok, Err, nat_lt, if◌then◌else◌}
+use Rattle.std.proofs.Common.{◌≡◌, ℕ, ◌<◌, ◌==◌, Bool, true, false, List, [], ◌∷◌, refl, sym, ap, ◌∙◌, subst, arith}
+use Rattle.std.specs.Prelude.{Some, None, Result, Ok, Err, nat_lt, if◌then◌else◌}
 use Rattle.mon_values.specs.declared.value.Value.{Value}
 use Rattle.mon_values.specs.declared.value.Value.TheOpen.{Value-F}
 use Rattle.mon_values.specs.declared.value.Value.TheViews.{out-Value}
 use Rattle.mon_values.specs.declared.value.Exc.{Exc}
 use Rattle.mon_values.specs.declared.fault.Trouble.{Trouble}
 use Rattle.mon_values.specs.Troubles.{trouble}
-use Rattle.mon_values.specs.declared.operator.CmpOp.{CmpOp}
 use Rattle.mon_code.specs.Programs.{Parts}
 use Rattle.mon_frames.specs.declared.frame.Frame.{Frame}
 use Rattle.mon_frames.specs.declared.call.Call.{Call}
@@ -15,8 +14,7 @@ use Rattle.mon_frames.specs.Views.{FramesView, top_of}
 use Rattle.mon_frames.specs.Iterating.{iterated}
 use Rattle.mon_frames.specs.Answers.{AnswersIter}
 use Rattle.mon_builtins.specs.declared.given.Given.{Given}
-use Rattle.mon_builtins.specs.Builtins.{builtin_due, next_due, next_at, iter_due, iter_at, print_of, given_by, len_of, range_of, text_due, int_of, abs_of, tuple_of}
-use Rattle.mon_builtins.specs.Extremes.{extreme}
+use Rattle.mon_builtins.specs.Builtins.{builtin_due, next_due, next_at, iter_due, iter_at}
 use Rattle.mon_machine.specs.State.{Move}
 use Rattle.mon_machine.specs.Moves.{given_move, calls_builtin, method_on, first_generator, throws_trouble}
 use Rattle.mon_interp.specs.Moving.{Stands}

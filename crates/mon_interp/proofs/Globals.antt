@@ -1,8 +1,7 @@
 -- A name in a table of names.
-use Rattle.std.proofs.Common.{◌≡◌, ℕ, zero, suc, ◌+◌, ◌<◌, ◌≤◌, ◌==◌, ◌&&◌, Bool, true, false, List, [], ◌∷◌, length, take, drop, map, refl, sym, ap, ◌∙◌, arith}
-use Rattle.std.specs.Prelude.{slice_get, Option, Some, None, if◌then◌else◌}
-use Rattle.std.proofs.lemmas.Option.{slice_get-map}
-use Rattle.mon_values.specs.Classes.{builtin_names, builtin_name, classes, class_name, Class, name_at, name_or}
+use Rattle.std.proofs.Common.{◌≡◌, ℕ, zero, suc, ◌+◌, ◌<◌, ◌==◌, ◌&&◌, Bool, true, false, List, [], ◌∷◌, length, take, drop, map, refl, sym, ap, ◌∙◌, arith}
+use Rattle.std.specs.Prelude.{slice_get, Some, if◌then◌else◌}
+use Rattle.mon_values.specs.Classes.{builtin_names, builtin_name, classes, class_name, Class, name_at}
 use Rattle.mon_code.specs.Programs.{is_text, first_named}
 use Rattle.mon_frames.proofs.Lists.{left_some}
 use Rattle.mon_machine.specs.Operations.{global_builtins, class_names}

@@ -1,5 +1,5 @@
 -- Values that are gone over, while the call stack stays.
-use Rattle.std.proofs.Common.{◌≡◌, ℕ, List, refl, sym, ap, ◌∙◌, subst}
+use Rattle.std.proofs.Common.{◌≡◌, ℕ, List, sym, ap, ◌∙◌}
 use Rattle.std.specs.Prelude.{Option, Some, None, Result, Ok, Err}
 use Rattle.mon_values.specs.declared.value.Value.{Value}
 use Rattle.mon_values.specs.declared.value.Value.TheOpen.{Value-F}
@@ -13,7 +13,7 @@ use Rattle.mon_frames.specs.Items.{items_of}
 use Rattle.mon_frames.specs.Iterating.{iterated, iterated_at, over, next_of}
 use Rattle.mon_frames.specs.Answers.{AnswersIter}
 use Rattle.mon_machine.specs.declared.mode.Ending.{Ending}
-use Rattle.mon_machine.specs.State.{Move, moved}
+use Rattle.mon_machine.specs.State.{moved}
 use Rattle.mon_machine.specs.Moves.{pushes, iterates, iterates_over, item_of, or_done}
 
 kept_over : (v w : FramesView) (y : Value) (items : Option (List Value)) → AnswersIter (Ok y) (over v items) v w → w.calls ≡ v.calls

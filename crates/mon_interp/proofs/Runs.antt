@@ -1,15 +1,15 @@
 -- A run goes on by one step.
-use Rattle.std.proofs.Common.{◌≡◌, ℕ, ◌+◌, ◌<◌, ◌≤◌, Bool, true, List, [], ◌∷◌, ◌++◌, length, take, refl, sym, ap, ◌∙◌, arith, subst, append_assoc, append-nil, length-append}
+use Rattle.std.proofs.Common.{◌≡◌, ℕ, ◌+◌, ◌≤◌, true, List, [], ◌∷◌, ◌++◌, length, take, refl, sym, ap, ◌∙◌, arith, subst, append_assoc, append-nil, length-append}
 use Rattle.std.proofs.lemmas.List.{take-append-le}
 use Rattle.std.proofs.Math.Seq.{take-length}
 use Rattle.mon_code.specs.Programs.{Parts}
 use Rattle.mon_words.specs.declared.history.Board.{Board}
 use Rattle.mon_words.specs.declared.history.Mark.{Mark}
-use Rattle.mon_words.specs.History.{after, puts, offs, Begins}
-use Rattle.mon_words.specs.Told.{Told, Sees, Loads}
+use Rattle.mon_words.specs.History.{after, offs, Begins}
+use Rattle.mon_words.specs.Told.{Told, Sees}
 use Rattle.mon_recorders.specs.declared.record.Record.{Record}
 use Rattle.mon_machine.specs.State.{State, goes}
-use Rattle.mon_machine.specs.Step.{Step, step}
+use Rattle.mon_machine.specs.Step.{step}
 use Rattle.mon_machine.specs.Run.{Progress, Ran, Goes, Between, after_steps, records_of, printed_by, heard, is_heard}
 use Rattle.mon_machine.proofs.Runs.{after_steps_none, one_more, goes_none, goes_one_more}
 use Rattle.mon_machine.proofs.Printed.{printed_none, printed_last}

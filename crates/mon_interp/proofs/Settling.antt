@@ -1,5 +1,5 @@
 -- How a thread goes on, by its innermost call.
-use Rattle.std.proofs.Common.{◌≡◌, ℕ, ◌+◌, ◌<◌, List, [], ◌∷◌, length, refl, sym, ap, ◌∙◌, subst, arith}
+use Rattle.std.proofs.Common.{◌≡◌, ◌<◌, List, [], ◌∷◌, refl, sym, ap, ◌∙◌, subst}
 use Rattle.std.specs.Prelude.{Option, Some, None}
 use Rattle.mon_values.specs.declared.value.Value.{Value}
 use Rattle.mon_values.specs.declared.value.Exc.{Exc}
@@ -14,9 +14,9 @@ use Rattle.mon_frames.specs.Calls.{handler_due}
 use Rattle.mon_frames.specs.Views.{FramesView, top_of, origin_of, without_top}
 use Rattle.mon_machine.specs.declared.mode.Mode.{Mode}
 use Rattle.mon_machine.specs.declared.mode.Ending.{Ending}
-use Rattle.mon_machine.specs.State.{State, Move, with_frame, moved}
+use Rattle.mon_machine.specs.State.{Move, with_frame, moved}
 use Rattle.mon_machine.specs.Moves.{pushes}
-use Rattle.mon_machine.specs.Step.{in_mode_of, origin_in, gives_caller, takes_value, stands_at, unwinds, unwinds_from, catches, caught_in, goes_out}
+use Rattle.mon_machine.specs.Step.{in_mode_of, origin_in, gives_caller, takes_value, stands_at, unwinds, unwinds_from, caught_in, goes_out}
 use Rattle.mon_interp.specs.Moving.{Stands, goes_out_from, leaves_raised}
 
 pub origins_same : (calls : List Call) → origin_in calls ≡ origin_of calls

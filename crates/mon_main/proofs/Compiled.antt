@@ -1,5 +1,5 @@
 -- What is answered to a module is its due answer.
-use Rattle.std.proofs.Common.{◌≡◌, ◌∙◌, ℕ, List, refl, sym, ap, subst, Bool, true, false, Result, IfOk}
+use Rattle.std.proofs.Common.{◌≡◌, ◌∙◌, ℕ, List, refl, sym, ap, subst, true, Result, IfOk}
 use Rattle.std.specs.Prelude.{Option, Some, None, slice_get}
 use Rattle.mon_events.specs.declared.op.Op.{Op}
 use Rattle.mon_code.specs.Programs.{Parts, op_in}

@@ -1,4 +1,4 @@
-use Rattle.std.proofs.Common.{◌≡◌, ◌<◌, ◌∷◌, [], List, drop, length, sym, ap, ◌∙◌, arith, refl}
+use Rattle.std.proofs.Common.{◌≡◌, ◌<◌, ◌∷◌, List, drop, length, sym, ap, ◌∙◌, arith}
 use Rattle.mon_values.specs.declared.value.Value.{Value}
 use Rattle.mon_frames.proofs.Lists.{drop_one_more}
 use Rattle.mon_machine.specs.Moves.{with_stack}

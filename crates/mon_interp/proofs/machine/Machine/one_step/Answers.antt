@@ -1,4 +1,4 @@
-use Rattle.std.proofs.Common.{◌≡◌, sym}
+use Rattle.std.proofs.Common.{sym}
 use Rattle.mon_words.specs.declared.history.Board.{Board}
 use Rattle.mon_words.specs.History.{after}
 use Rattle.mon_interp.specs.declared.machine.Machine.{Machine}

@@ -1,4 +1,4 @@
-use Rattle.std.proofs.Common.{◌≡◌, ap, sym, ◌∙◌, refl}
+use Rattle.std.proofs.Common.{ap, sym, ◌∙◌, refl}
 use Rattle.mon_machine.specs.declared.mode.Mode.{Mode}
 use Rattle.mon_machine.specs.State.{State}
 use Rattle.mon_machine.specs.Run.{is_heard}
