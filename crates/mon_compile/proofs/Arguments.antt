@@ -5,15 +5,15 @@ use Rattle.std.proofs.lemmas.Bool.Decides.{nat_tests}
 use Rattle.mon_events.specs.declared.op.Op.{Op}
 use Rattle.mon_code.specs.Programs.{is_text}
 use Rattle.mon_values.specs.declared.value.Value as value
-use Rattle.mon_parser.specs.declared.tree.Expression.{Expression}
-use Rattle.mon_parser.specs.declared.tree.Function.{Function}
-use Rattle.mon_parser.specs.declared.tree.Handler.{Handler}
-use Rattle.mon_parser.specs.declared.tree.Simple.{Simple}
-use Rattle.mon_parser.specs.declared.tree.Simple.TheVariants as simple
-use Rattle.mon_parser.specs.declared.tree.Statement.{Statement}
-use Rattle.mon_parser.specs.declared.tree.Statement.TheViews.{roll-Statement, roll-Handler}
-use Rattle.mon_parser.specs.declared.tree.Statement.TheOpen.{Statement-F, Handler-F}
-use Rattle.mon_parser.specs.declared.tree.Statement.TheFolds.{ind-Statement, fold-Handler, fold-roll-Statement, fold-roll-Handler, map-Statement, map-Handler}
+use Rattle.mon_trees.specs.declared.tree.Expression.{Expression}
+use Rattle.mon_trees.specs.declared.tree.Function.{Function}
+use Rattle.mon_trees.specs.declared.tree.Handler.{Handler}
+use Rattle.mon_trees.specs.declared.tree.Simple.{Simple}
+use Rattle.mon_trees.specs.declared.tree.Simple.TheVariants as simple
+use Rattle.mon_trees.specs.declared.tree.Statement.{Statement}
+use Rattle.mon_trees.specs.declared.tree.Statement.TheViews.{roll-Statement, roll-Handler}
+use Rattle.mon_trees.specs.declared.tree.Statement.TheOpen.{Statement-F, Handler-F}
+use Rattle.mon_trees.specs.declared.tree.Statement.TheFolds.{ind-Statement, fold-Handler, fold-roll-Statement, fold-roll-Handler, map-Statement, map-Handler}
 use Rattle.mon_compile.specs.Expressions.{Coder, Locals, is_local, expression_code, constant_code, number_of_local}
 use Rattle.mon_compile.specs.Statements.{Scheme, ClauseScheme, is_lone_text, lone_code, coder_of, simple_code, statement_step, clause_code, handler_step, statement_code, block_code, handler_code}
 use Rattle.mon_compile.specs.Functions.{joined, target_names, simple_names, names_step, or_empty, handler_names_step, names_of, with_names, locals_of, yields_in, yields_within, simple_yields, statement_yields_step, handler_yields_step, yields_of, is_generator}

@@ -10,7 +10,7 @@ use Rattle.mon_code.specs.Checked as checked
 use Rattle.mon_code.specs.declared.program.Code.{Code}
 use Rattle.mon_code.specs.declared.program.Location.{Location}
 use Rattle.mon_values.specs.declared.value.Value.{Value}
-use Rattle.mon_parser.specs.declared.tree.Function.{Function}
+use Rattle.mon_trees.specs.declared.tree.Function.{Function}
 use Rattle.mon_compile.specs.declared.assembly.Instruction.{Instruction}
 use Rattle.mon_compile.specs.declared.assembly.Argument.{Argument}
 use Rattle.mon_compile.specs.declared.assembly.Argument.TheVariants.{Number, Constant, Name, Destination}

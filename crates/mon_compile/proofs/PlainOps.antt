@@ -5,7 +5,7 @@ use Rattle.std.proofs.lemmas.Option.{same_Some}
 use Rattle.mon_events.specs.Ops.{op_of, number_of}
 use Rattle.mon_events.specs.declared.op.Op.{Op}
 use Rattle.mon_code.specs.Programs.{op_in}
-use Rattle.mon_parser.specs.declared.tree.Function.{Function}
+use Rattle.mon_trees.specs.declared.tree.Function.{Function}
 use Rattle.mon_compile.specs.declared.assembly.Argument.{Argument}
 use Rattle.mon_compile.specs.declared.assembly.Instruction.{Instruction}
 use Rattle.mon_compile.specs.Faults.{unbuilt_in, finally_lines_of}
