@@ -98,41 +98,12 @@ product_too_large n items r left fits l h f k =
     let same : n * (4095 - left) ≡ n * sum (map weight items) = ap (λ m. n * m) (spent items r left l h) in
     tuple_heavy (repeat n items) (omega (arith, sum_repeat weight n items, test_false (n * (4095 - left)) 4095 fits f k))
 
-product_small : (n : ℕ) (items : List Value) (r : Option ℕ) (left : ℕ) (fits : Bool) → r ≡ left_of 4095 (sum (map weight items)) → r ≡ Some left → fits ≡ nat_le (n * (4095 - left)) 4095 → fits ≡ true → sum (map weight (repeat n items)) ≤ 4095
-product_small n items r left fits l h f k =
-    let same : n * (4095 - left) ≡ n * sum (map weight items) = ap (λ m. n * m) (spent items r left l h) in
-    omega (arith, sum_repeat weight n items, test_true (n * (4095 - left)) 4095 fits f k)
+-- a tuple that is made, by the tests of its weight and its depth
+pub items_heavy : (items : List Value) (r : Option ℕ) → r ≡ left_of 4095 (sum (map weight items)) → r ≡ None → made (Tuple items) ≡ Err too_large
+items_heavy items r l h = tuple_heavy items (left_none 4095 (sum (map weight items)) r l h)
 
-pub items_too_deep : (n : ℕ) (items : List Value) (r : Option ℕ) (left : ℕ) (fits shallow : Bool) → 0 < n → r ≡ left_of 4095 (sum (map weight items)) → r ≡ Some left → fits ≡ nat_le (n * (4095 - left)) 4095 → fits ≡ true
-    → shallow ≡ nat_le (greatest (map depth items)) 63 → shallow ≡ false → made (Tuple (repeat n items)) ≡ Err nested_too_deeply
-items_too_deep n items r left fits shallow p l h f k s d =
-    tuple_deep (repeat n items) (product_small n items r left fits l h f k) (omega (arith, greatest_repeat depth n items p, test_false (greatest (map depth items)) 63 shallow s d))
+pub items_deep : (items : List Value) (r : Option ℕ) (left : ℕ) (s : Bool) → r ≡ left_of 4095 (sum (map weight items)) → r ≡ Some left → s ≡ nat_le (greatest (map depth items)) 63 → s ≡ false → made (Tuple items) ≡ Err nested_too_deeply
+items_deep items r left s l h d e = tuple_deep items (omega (arith, left_some 4095 (sum (map weight items)) left r l h)) (test_false (greatest (map depth items)) 63 s d e)
 
-pub items_repeated : (n : ℕ) (items : List Value) (r : Option ℕ) (left : ℕ) (fits shallow : Bool) → 0 < n → r ≡ left_of 4095 (sum (map weight items)) → r ≡ Some left → fits ≡ nat_le (n * (4095 - left)) 4095 → fits ≡ true
-    → shallow ≡ nat_le (greatest (map depth items)) 63 → shallow ≡ true → made (Tuple (repeat n items)) ≡ Ok (Tuple (repeat n items))
-items_repeated n items r left fits shallow p l h f k s d =
-    tuple_made (repeat n items) (product_small n items r left fits l h f k) (omega (arith, greatest_repeat depth n items p, test_true (greatest (map depth items)) 63 shallow s d))
-
--- two tuples in a row
-join_small : (a b : List Value) (r q : Option ℕ) (left rest : ℕ) → r ≡ left_of 4095 (sum (map weight a)) → r ≡ Some left → q ≡ left_of left (sum (map weight b)) → q ≡ Some rest → sum (map weight (a ++ b)) ≤ 4095
-join_small a b r q left rest l h m k =
-    omega (arith, sum_append weight a b, left_some 4095 (sum (map weight a)) left r l h, left_some left (sum (map weight b)) rest q m k)
-
-pub join_too_large : (a b : List Value) (r q : Option ℕ) (left : ℕ) → r ≡ left_of 4095 (sum (map weight a)) → r ≡ Some left → q ≡ left_of left (sum (map weight b)) → q ≡ None → made (Tuple (a ++ b)) ≡ Err too_large
-join_too_large a b r q left l h m k =
-    tuple_heavy (a ++ b) (omega (arith, sum_append weight a b, left_some 4095 (sum (map weight a)) left r l h, left_none left (sum (map weight b)) q m k))
-
-pub join_deep_first : (a b : List Value) (r q : Option ℕ) (left rest : ℕ) (s : Bool) → r ≡ left_of 4095 (sum (map weight a)) → r ≡ Some left → q ≡ left_of left (sum (map weight b)) → q ≡ Some rest
-    → s ≡ nat_le (greatest (map depth a)) 63 → s ≡ false → made (Tuple (a ++ b)) ≡ Err nested_too_deeply
-join_deep_first a b r q left rest s l h m k d e =
-    tuple_deep (a ++ b) (join_small a b r q left rest l h m k) (omega (arith, greatest_map_append depth a b, test_false (greatest (map depth a)) 63 s d e))
-
-pub join_deep_last : (a b : List Value) (r q : Option ℕ) (left rest : ℕ) (s : Bool) → r ≡ left_of 4095 (sum (map weight a)) → r ≡ Some left → q ≡ left_of left (sum (map weight b)) → q ≡ Some rest
-    → s ≡ nat_le (greatest (map depth b)) 63 → s ≡ false → made (Tuple (a ++ b)) ≡ Err nested_too_deeply
-join_deep_last a b r q left rest s l h m k d e =
-    tuple_deep (a ++ b) (join_small a b r q left rest l h m k) (omega (arith, greatest_map_append depth a b, test_false (greatest (map depth b)) 63 s d e))
-
-pub join_made : (a b : List Value) (r q : Option ℕ) (left rest : ℕ) (s t : Bool) → r ≡ left_of 4095 (sum (map weight a)) → r ≡ Some left → q ≡ left_of left (sum (map weight b)) → q ≡ Some rest
-    → s ≡ nat_le (greatest (map depth a)) 63 → s ≡ true → t ≡ nat_le (greatest (map depth b)) 63 → t ≡ true → made (Tuple (a ++ b)) ≡ Ok (Tuple (a ++ b))
-join_made a b r q left rest s t l h m k d e f g =
-    tuple_made (a ++ b) (join_small a b r q left rest l h m k) (omega (arith, greatest_map_append depth a b, test_true (greatest (map depth a)) 63 s d e, test_true (greatest (map depth b)) 63 t f g))
+pub items_made : (items : List Value) (r : Option ℕ) (left : ℕ) (s : Bool) → r ≡ left_of 4095 (sum (map weight items)) → r ≡ Some left → s ≡ nat_le (greatest (map depth items)) 63 → s ≡ true → made (Tuple items) ≡ Ok (Tuple items)
+items_made items r left s l h d e = tuple_made items (omega (arith, left_some 4095 (sum (map weight items)) left r l h)) (test_true (greatest (map depth items)) 63 s d e)

@@ -10,10 +10,10 @@ ghost use Rattle.mon_values.specs.Weights as weights;
 
 use crate::fault::{ArithFault, Trouble};
 use crate::operator::ArithOp;
-use crate::text::Text;
-use crate::value::{Tuple, Value, copy_items};
-use crate::weight::{MAX_DEPTH, MAX_WEIGHT, all_nest_at_most, spend_items};
-use sqlite_items::Items;
+use crate::text::{Text, TextBuffer};
+use crate::value::{Tuple, Value, append_copies};
+use crate::weight::{MAX_WEIGHT, made_tuple, spend_items};
+use mon_shared::SharedItems;
 use std::alloc::{AllocError, Global};
 
 /// The integer that a value stands for: an Int, or 0 or 1 for a Bool.
@@ -133,30 +133,27 @@ fn join_texts(alloc: Global, a: &Text, b: &Text) -> Result<Value, ArithFault>
     if a.len() > limit || b.len() > limit - a.len() {
         return Err(ArithFault::Trouble(Trouble::TOO_LARGE));
     }
-    let mut text = a.copy(alloc)?;
+    let mut text = TextBuffer::new(alloc);
+    text.append(a.chars())?;
     text.append(b.chars())?;
-    Ok(Value::Text(text))
+    Ok(Value::Text(text.into_text()?))
+}
+
+fn joined(alloc: Global, a: &[Value], b: &[Value]) -> Result<Tuple, AllocError>
+    ensures { IfOk result (λ items. items ≡ a.now ++ b.now) }
+{
+    let mut items = Vec::new(alloc);
+    append_copies(&mut items, a)?;
+    append_copies(&mut items, b)?;
+    SharedItems::from_vec(items)
 }
 
 /// Two tuples in a row.
 fn join_tuples(alloc: Global, a: &[Value], b: &[Value]) -> Result<Value, ArithFault>
     ensures { AnswersArith result (weights.made (the_tuple (a.now ++ b.now))) }
 {
-    let Some(left) = spend_items(a, MAX_WEIGHT - 1) else {
-        return Err(ArithFault::Trouble(Trouble::TOO_LARGE));
-    };
-    let Some(_) = spend_items(b, left) else {
-        return Err(ArithFault::Trouble(Trouble::TOO_LARGE));
-    };
-    if !all_nest_at_most(a, MAX_DEPTH - 1) {
-        return Err(ArithFault::Trouble(Trouble::NESTED_TOO_DEEPLY));
-    }
-    if !all_nest_at_most(b, MAX_DEPTH - 1) {
-        return Err(ArithFault::Trouble(Trouble::NESTED_TOO_DEEPLY));
-    }
-    let mut items = copy_items(alloc, a)?;
-    items.append(copy_items(alloc, b)?)?;
-    Ok(Value::Tuple(items))
+    let items = joined(alloc, a, b)?;
+    made_tuple(items).map_err(ArithFault::Trouble)
 }
 
 /// How often an integer repeats: not at all below 1.
@@ -184,7 +181,7 @@ fn repeat_text(alloc: Global, text: &Text, count: u64) -> Result<Value, ArithFau
         return Err(ArithFault::Trouble(Trouble::TOO_LARGE));
     }
     if text.is_empty() {
-        return Ok(Value::Text(Text::new(alloc)));
+        return Ok(Value::Text(Text::new()));
     }
     Ok(Value::Text(copies_of_text(alloc, text, count)?))
 }
@@ -193,11 +190,11 @@ fn repeat_text(alloc: Global, text: &Text, count: u64) -> Result<Value, ArithFau
 fn copies_of_text(alloc: Global, text: &Text, count: u64) -> Result<Text, AllocError>
     ensures { IfOk result (λ copies. copies ≡ repeat count text.now) }
 {
-    let mut copies = Text::new(alloc);
+    let mut copies = TextBuffer::new(alloc);
     for _turn in 0..count {
         copies.append(text.chars())?;
     }
-    Ok(copies)
+    copies.into_text()
 }
 
 /// The items of a tuple so many times in a row.
@@ -205,10 +202,10 @@ fn repeat_tuple(alloc: Global, items: &[Value], count: u64) -> Result<Value, Ari
     ensures { AnswersArith result (weights.made (the_tuple (repeat count items.now))) }
 {
     if count == 0 {
-        return Ok(Value::Tuple(Items::new(alloc)));
+        return Ok(Value::Tuple(SharedItems::new()));
     }
     if items.is_empty() {
-        return Ok(Value::Tuple(Items::new(alloc)));
+        return Ok(Value::Tuple(SharedItems::new()));
     }
     let Some(left) = spend_items(items, MAX_WEIGHT - 1) else {
         return Err(ArithFault::Trouble(Trouble::TOO_LARGE));
@@ -216,21 +213,19 @@ fn repeat_tuple(alloc: Global, items: &[Value], count: u64) -> Result<Value, Ari
     if !product_fits(count, MAX_WEIGHT - 1 - left, MAX_WEIGHT - 1) {
         return Err(ArithFault::Trouble(Trouble::TOO_LARGE));
     }
-    if !all_nest_at_most(items, MAX_DEPTH - 1) {
-        return Err(ArithFault::Trouble(Trouble::NESTED_TOO_DEEPLY));
-    }
-    Ok(Value::Tuple(copies_of_items(alloc, items, count)?))
+    let copies = copies_of_items(alloc, items, count)?;
+    made_tuple(copies).map_err(ArithFault::Trouble)
 }
 
 #[tactic(auto, using(crate::proofs::Weighing::repeat_more))]
 fn copies_of_items(alloc: Global, items: &[Value], count: u64) -> Result<Tuple, AllocError>
     ensures { IfOk result (λ copies. copies ≡ repeat count items.now) }
 {
-    let mut copies = Items::new(alloc);
+    let mut copies = Vec::new(alloc);
     for _turn in 0..count {
-        copies.append(copy_items(alloc, items)?)?;
+        append_copies(&mut copies, items)?;
     }
-    Ok(copies)
+    SharedItems::from_vec(copies)
 }
 
 /// What an operator gives of two values where both are integers, which alone are supported.
@@ -275,7 +270,7 @@ fn multiply(alloc: Global, a: &Value, b: &Value) -> Result<Value, ArithFault>
     }
 }
 
-/// What an operator of arithmetic gives. A value that it makes keeps the limits of weight and depth, which are looked at before anything is copied.
+/// What an operator of arithmetic gives. A value that it makes keeps the limits of weight and depth; where it repeats one, its weight is looked at before a copy is made.
 pub fn arith(alloc: Global, op: ArithOp, a: &Value, b: &Value) -> Result<Value, ArithFault>
     ensures { AnswersArith result (spec.arith_of op a.now b.now) }
 {

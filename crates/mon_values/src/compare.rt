@@ -175,7 +175,7 @@ fn text_verdict(a: &[char], b: &[char]) -> Verdict
 fn same_integer(a: i64, b: i64) -> bool
     ensures { result ≡ int_eq a b }
 {
-    matches!(a.cmp(&b), Ordering::Equal)
+    a == b
 }
 
 /// Whether two ranges have the same integers in the same order.

@@ -5,7 +5,7 @@ ghost use Rattle.mon_values.specs.Weights.{made_exc, exc_of};
 use crate::fault::{ExcFault, Trouble};
 use crate::value::{Exc, Value};
 use crate::weight::{MAX_DEPTH, MAX_WEIGHT};
-use sqlite_items::Boxed;
+use mon_shared::SharedBox;
 use std::alloc::Global;
 
 /// An exception of a class with a copy of an argument, where it keeps the limits of weight and depth.
@@ -22,10 +22,10 @@ pub fn make_exc(alloc: Global, class: u8, arg: Option<&Value>) -> Result<Exc, Ex
             if !value.nests_at_most(MAX_DEPTH - 1) {
                 return Err(ExcFault::Trouble(Trouble::NESTED_TOO_DEEPLY));
             }
-            let value = value.copy(alloc)?;
+            let value = value.copy()?;
             Ok(Exc {
                 class,
-                arg: Some(Boxed::new(alloc, value)?),
+                arg: Some(SharedBox::new(alloc, value)?),
             })
         }
     }

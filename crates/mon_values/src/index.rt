@@ -41,23 +41,19 @@ fn index_text(alloc: Global, text: &[char], at: &Value) -> Result<Value, IndexFa
         Err(trouble) => Err(IndexFault::Trouble(trouble)),
         Ok(place) => match text.get(place as usize) {
             None => Err(IndexFault::Trouble(Trouble::INDEX_OUT_OF_RANGE)),
-            Some(c) => {
-                let mut one = Text::new(alloc);
-                one.push(*c)?;
-                Ok(Value::Text(one))
-            }
+            Some(c) => Ok(Value::Text(Text::from_chars(alloc, &[*c])?)),
         },
     }
 }
 
-fn index_tuple(alloc: Global, items: &[Value], at: &Value) -> Result<Value, IndexFault>
+fn index_tuple(items: &[Value], at: &Value) -> Result<Value, IndexFault>
     ensures { AnswersIndex result (spec.tuple_item items.now (arithmetic.integer at.now)) }
 {
     match place_at(at, items.len() as u64) {
         Err(trouble) => Err(IndexFault::Trouble(trouble)),
         Ok(place) => match items.get(place as usize) {
             None => Err(IndexFault::Trouble(Trouble::INDEX_OUT_OF_RANGE)),
-            Some(item) => Ok(item.copy(alloc)?),
+            Some(item) => Ok(item.copy()?),
         },
     }
 }
@@ -79,7 +75,7 @@ pub fn index(alloc: Global, whole: &Value, at: &Value) -> Result<Value, IndexFau
 {
     match whole {
         Value::Text(text) => index_text(alloc, text.chars(), at),
-        Value::Tuple(items) => index_tuple(alloc, items.as_slice(), at),
+        Value::Tuple(items) => index_tuple(items.as_slice(), at),
         Value::Range(start, stop, step) => index_range(*start, *stop, *step, at),
         _ => Err(IndexFault::Trouble(Trouble::UNSUPPORTED_OPERAND)),
     }

@@ -5,7 +5,7 @@ ghost use Rattle.mon_values.specs.Classes.{name_at};
 ghost use Rattle.mon_values.specs.Printing as spec;
 
 use crate::class::{builtin_name, class_name};
-use crate::text::Text;
+use crate::text::{Text, TextBuffer};
 use crate::value::{Exc, Value};
 use std::alloc::{AllocError, Global};
 
@@ -19,13 +19,13 @@ fn name_of(names: &[Text], number: u16) -> &[char]
     }
 }
 
-fn write_unsigned(out: &mut Text, n: u32) -> Result<(), AllocError>
+fn write_unsigned(out: &mut TextBuffer, n: u32) -> Result<(), AllocError>
     ensures { OnOk result (out.new ≡ out.old ++ decimal n) }
 {
     out.append_ascii(itoa::Buffer::new().format(n))
 }
 
-fn write_signed(out: &mut Text, n: i64) -> Result<(), AllocError>
+fn write_signed(out: &mut TextBuffer, n: i64) -> Result<(), AllocError>
     ensures { OnOk result (out.new ≡ out.old ++ signed_decimal n) }
 {
     out.append_ascii(itoa::Buffer::new().format(n))
@@ -44,7 +44,7 @@ fn hex_digit(n: u8) -> char
 }
 
 /// A character as it stands between such quotes.
-fn write_escaped(out: &mut Text, quote: char, c: char) -> Result<(), AllocError>
+fn write_escaped(out: &mut TextBuffer, quote: char, c: char) -> Result<(), AllocError>
     ensures { OnOk result (out.new ≡ out.old ++ spec.escaped quote c) }
 {
     if c == '\\' || c == quote {
@@ -83,7 +83,7 @@ fn quote_of(text: &[char]) -> char
     }
 }
 
-fn write_text(out: &mut Text, text: &[char]) -> Result<(), AllocError>
+fn write_text(out: &mut TextBuffer, text: &[char]) -> Result<(), AllocError>
     ensures { OnOk result (out.new ≡ out.old ++ spec.text_repr text.now) }
 {
     let quote = quote_of(text);
@@ -91,7 +91,7 @@ fn write_text(out: &mut Text, text: &[char]) -> Result<(), AllocError>
 }
 
 /// A text between quotes.
-fn write_quoted(out: &mut Text, quote: char, text: &[char]) -> Result<(), AllocError>
+fn write_quoted(out: &mut TextBuffer, quote: char, text: &[char]) -> Result<(), AllocError>
     ensures { OnOk result (out.new ≡ out.old ++ spec.quoted quote text.now) }
 {
     out.push(quote)?;
@@ -103,7 +103,7 @@ fn write_quoted(out: &mut Text, quote: char, text: &[char]) -> Result<(), AllocE
 
 /// The step of a range, where it is not 1.
 #[tactic(auto, using(crate::proofs::Tables::step_shown))]
-fn write_step(out: &mut Text, step: i64) -> Result<(), AllocError>
+fn write_step(out: &mut TextBuffer, step: i64) -> Result<(), AllocError>
     ensures { OnOk result (out.new ≡ out.old ++ spec.step_repr step) }
 {
     if step == 1 {
@@ -113,7 +113,7 @@ fn write_step(out: &mut Text, step: i64) -> Result<(), AllocError>
     write_signed(out, step)
 }
 
-fn write_range(out: &mut Text, start: i64, stop: i64, step: i64) -> Result<(), AllocError>
+fn write_range(out: &mut TextBuffer, start: i64, stop: i64, step: i64) -> Result<(), AllocError>
     ensures { OnOk result (out.new ≡ out.old ++ spec.range_repr start stop step) }
 {
     out.append_ascii("range(")?;
@@ -124,7 +124,7 @@ fn write_range(out: &mut Text, start: i64, stop: i64, step: i64) -> Result<(), A
     out.append_ascii(")")
 }
 
-fn write_function(out: &mut Text, names: &[Text], number: u16) -> Result<(), AllocError>
+fn write_function(out: &mut TextBuffer, names: &[Text], number: u16) -> Result<(), AllocError>
     ensures { OnOk result (out.new ≡ out.old ++ spec.function_repr names.now number) }
 {
     out.append_ascii("<function ")?;
@@ -132,7 +132,7 @@ fn write_function(out: &mut Text, names: &[Text], number: u16) -> Result<(), All
     out.append_ascii(">")
 }
 
-fn write_builtin(out: &mut Text, number: u8) -> Result<(), AllocError>
+fn write_builtin(out: &mut TextBuffer, number: u8) -> Result<(), AllocError>
     ensures { OnOk result (out.new ≡ out.old ++ spec.builtin_repr number) }
 {
     out.append_ascii("<built-in ")?;
@@ -140,7 +140,7 @@ fn write_builtin(out: &mut Text, number: u8) -> Result<(), AllocError>
     out.append_ascii(">")
 }
 
-fn write_class(out: &mut Text, number: u8) -> Result<(), AllocError>
+fn write_class(out: &mut TextBuffer, number: u8) -> Result<(), AllocError>
     ensures { OnOk result (out.new ≡ out.old ++ spec.class_repr number) }
 {
     out.append_ascii("<class '")?;
@@ -148,7 +148,7 @@ fn write_class(out: &mut Text, number: u8) -> Result<(), AllocError>
     out.append_ascii("'>")
 }
 
-fn write_generator(out: &mut Text, number: u32) -> Result<(), AllocError>
+fn write_generator(out: &mut TextBuffer, number: u32) -> Result<(), AllocError>
     ensures { OnOk result (out.new ≡ out.old ++ spec.generator_repr number) }
 {
     out.append_ascii("<generator ")?;
@@ -156,7 +156,7 @@ fn write_generator(out: &mut Text, number: u32) -> Result<(), AllocError>
     out.append_ascii(">")
 }
 
-fn write_iterator(out: &mut Text, number: u32) -> Result<(), AllocError>
+fn write_iterator(out: &mut TextBuffer, number: u32) -> Result<(), AllocError>
     ensures { OnOk result (out.new ≡ out.old ++ spec.iterator_repr number) }
 {
     out.append_ascii("<iterator ")?;
@@ -166,7 +166,7 @@ fn write_iterator(out: &mut Text, number: u32) -> Result<(), AllocError>
 
 /// The items of a tuple.
 #[cycle(repr)]
-fn write_items(out: &mut Text, items: &[Value], names: &[Text]) -> Result<(), AllocError>
+fn write_items(out: &mut TextBuffer, items: &[Value], names: &[Text]) -> Result<(), AllocError>
     ensures { OnOk result (out.new ≡ out.old ++ spec.joined (map (spec.printed names.now) items.now)) }
 {
     for (i, item) in items.iter().enumerate() {
@@ -179,7 +179,7 @@ fn write_items(out: &mut Text, items: &[Value], names: &[Text]) -> Result<(), Al
 }
 
 /// The end of a tuple of so many items.
-fn write_tuple_end(out: &mut Text, count: usize) -> Result<(), AllocError>
+fn write_tuple_end(out: &mut TextBuffer, count: usize) -> Result<(), AllocError>
     ensures { OnOk result (out.new ≡ out.old ++ spec.tuple_end count) }
 {
     out.append_ascii(if count == 1 { ",)" } else { ")" })
@@ -190,7 +190,7 @@ impl Value {
     ghost use Rattle.mon_values.specs.Printing as spec;
 
     #[cycle(repr)]
-    fn write_repr(&self, out: &mut Text, names: &[Text]) -> Result<(), AllocError>
+    fn write_repr(&self, out: &mut TextBuffer, names: &[Text]) -> Result<(), AllocError>
         ensures { OnOk result (out.new ≡ out.old ++ spec.repr_of names.now self.now) }
     {
         match self {
@@ -221,7 +221,7 @@ impl Exc {
     ghost use Rattle.mon_values.specs.Printing as spec;
 
     #[cycle(repr)]
-    fn write_repr(&self, out: &mut Text, names: &[Text]) -> Result<(), AllocError>
+    fn write_repr(&self, out: &mut TextBuffer, names: &[Text]) -> Result<(), AllocError>
         ensures { OnOk result (out.new ≡ out.old ++ spec.exc_repr_of names.now self.now) }
     {
         out.append_ascii(class_name(self.class))?;
@@ -237,9 +237,9 @@ impl Exc {
 pub fn repr(alloc: Global, v: &Value, names: &[Text]) -> Result<Text, AllocError>
     ensures { IfOk result (λ text. text ≡ spec.repr_of names.now v.now) }
 {
-    let mut out = Text::new(alloc);
+    let mut out = TextBuffer::new(alloc);
     v.write_repr(&mut out, names)?;
-    Ok(out)
+    out.into_text()
 }
 
 /// The `str` of a value: a text itself, that of an exception's argument, else its `repr`, with `names` as there.
@@ -248,7 +248,7 @@ pub fn text_of(alloc: Global, v: &Value, names: &[Text]) -> Result<Text, AllocEr
     ensures { IfOk result (λ text. text ≡ spec.str_of names.now v.now) }
 {
     match v {
-        Value::Text(text) => text.copy(alloc),
+        Value::Text(text) => text.copy(),
         Value::Exc(exc) => exc_text_of(alloc, exc, names),
         _ => repr(alloc, v, names),
     }
@@ -261,6 +261,6 @@ pub fn exc_text_of(alloc: Global, exc: &Exc, names: &[Text]) -> Result<Text, All
 {
     match &exc.arg {
         Some(arg) => text_of(alloc, arg.get(), names),
-        None => Ok(Text::new(alloc)),
+        None => Ok(Text::new()),
     }
 }

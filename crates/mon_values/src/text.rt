@@ -1,12 +1,13 @@
 ghost use Rattle.std.specs.Prelude.{◌≡◌, [], ◌∷◌, ◌++◌, length, ◌↔◌, IsTrue, IfOk, OnOk, OnErr};
 
+use mon_shared::SharedItems;
 use std::alloc::{AllocError, Global};
 use std::marker::Model;
 
-/// A text, which contracts see as the list of its characters.
+/// A text with shared characters, which contracts see as their list.
 #[derive(Debug, Drop)]
 pub struct Text {
-    items: Vec<char>,
+    items: SharedItems<char>,
 }
 
 impl Model for Text {
@@ -14,42 +15,42 @@ impl Model for Text {
 
     ghost Value = { List ℕ };
 
-    ghost view = { λ t. t.items.items };
+    ghost view = { λ t. t.items };
 }
 
 impl Text {
     /// The empty text.
-    pub fn new(alloc: Global) -> Text
+    pub fn new() -> Text
         ensures { result ≡ [] }
     {
         Text {
-            items: Vec::new(alloc),
+            items: SharedItems::new(),
         }
     }
 
     /// The text of these characters, without a copy.
-    pub fn from_vec(items: Vec<char>) -> Text
-        ensures { result ≡ items.items }
+    pub fn from_vec(items: Vec<char>) -> Result<Text, AllocError>
+        ensures { IfOk result (λ t. t ≡ items.items) }
     {
-        Text { items }
+        Ok(Text {
+            items: SharedItems::from_vec(items)?,
+        })
     }
 
     /// A copy of these characters.
     pub fn from_chars(alloc: Global, chars: &[char]) -> Result<Text, AllocError>
         ensures { IfOk result (λ t. t ≡ chars.now) }
     {
-        Ok(Text {
-            items: Vec::from_slice(alloc, chars)?,
-        })
+        Text::from_vec(Vec::from_slice(alloc, chars)?)
     }
 
     /// The text of an ASCII string; of another string, one character for each of its bytes.
     pub fn from_ascii(alloc: Global, ascii: &str) -> Result<Text, AllocError>
         ensures { IfOk result (λ t. t ≡ ascii.now) }
     {
-        let mut text = Text::new(alloc);
+        let mut text = TextBuffer::new(alloc);
         text.append_ascii(ascii)?;
-        Ok(text)
+        text.into_text()
     }
 
     /// The characters in order.
@@ -71,6 +72,61 @@ impl Text {
         ensures { IsTrue result ↔ (self.now ≡ []) }
     {
         self.items.is_empty()
+    }
+
+    /// The same text, with one more owner of its characters.
+    pub fn copy(&self) -> Result<Text, AllocError>
+        ensures { IfOk result (λ t. t ≡ self.now) }
+    {
+        Ok(Text {
+            items: self.items.share()?,
+        })
+    }
+
+    /// The same text, of which nothing is shared.
+    pub fn own(&self, alloc: Global) -> Result<Text, AllocError>
+        ensures { IfOk result (λ t. t ≡ self.now) }
+    {
+        Text::from_chars(alloc, self.chars())
+    }
+}
+
+/// A text that is being written, which contracts see as the list of its characters.
+#[derive(Debug, Drop)]
+pub struct TextBuffer {
+    items: Vec<char>,
+}
+
+impl Model for TextBuffer {
+    ghost use Rattle.std.specs.Prelude.{List, ℕ};
+
+    ghost Value = { List ℕ };
+
+    ghost view = { λ t. t.items.items };
+}
+
+impl TextBuffer {
+    /// No characters yet.
+    pub fn new(alloc: Global) -> TextBuffer
+        ensures { result ≡ [] }
+    {
+        TextBuffer {
+            items: Vec::new(alloc),
+        }
+    }
+
+    /// The number of characters so far.
+    pub fn len(&self) -> usize
+        ensures { result ≡ length self.now }
+    {
+        self.items.len()
+    }
+
+    /// What was written, as a text.
+    pub fn into_text(self) -> Result<Text, AllocError>
+        ensures { IfOk result (λ t. t ≡ self) }
+    {
+        Text::from_vec(self.items)
     }
 
     /// Adds a character at the end.
@@ -103,12 +159,5 @@ impl Text {
             }
         }
         Ok(())
-    }
-
-    /// A copy of this text.
-    pub fn copy(&self, alloc: Global) -> Result<Text, AllocError>
-        ensures { IfOk result (λ t. t ≡ self.now) }
-    {
-        Text::from_chars(alloc, self.chars())
     }
 }

@@ -2,9 +2,9 @@ ghost use Rattle.std.specs.Prelude.{◌≡◌, take, IfOk};
 ghost use Rattle.mon_values.specs.Troubles as spec;
 
 use crate::fault::Trouble;
-use crate::text::Text;
+use crate::text::{Text, TextBuffer};
 use crate::value::{Exc, Value};
-use sqlite_items::Boxed;
+use mon_shared::SharedBox;
 use std::alloc::{AllocError, Global};
 
 /// The greatest number of characters of a name in the text of an exception.
@@ -67,10 +67,11 @@ pub fn trouble_exc(alloc: Global, trouble: Trouble, name: &[char]) -> Result<Exc
     match row_of(trouble) {
         Row::Fixed(class, text) => exc_with_text(alloc, class, Text::from_ascii(alloc, text)?),
         Row::Named(class, after) => {
-            let mut text = Text::from_ascii(alloc, "name '")?;
+            let mut text = TextBuffer::new(alloc);
+            text.append_ascii("name '")?;
             text.append(cut_name(name))?;
             text.append_ascii(after)?;
-            exc_with_text(alloc, class, text)
+            exc_with_text(alloc, class, text.into_text()?)
         }
     }
 }
@@ -81,6 +82,6 @@ fn exc_with_text(alloc: Global, class: u8, text: Text) -> Result<Exc, AllocError
 {
     Ok(Exc {
         class,
-        arg: Some(Boxed::new(alloc, Value::Text(text))?),
+        arg: Some(SharedBox::new(alloc, Value::Text(text))?),
     })
 }

@@ -1,9 +1,9 @@
 use crate::text::Text;
-use sqlite_items::{Boxed, Items};
+use mon_shared::{SharedBox, SharedItems};
 use std::alloc::{AllocError, Global};
 
 /// A tuple, which contracts see as the list of its values.
-pub type Tuple = Items<Value>;
+pub type Tuple = SharedItems<Value>;
 
 /// A value of the machine.
 #[cycle(value)]
@@ -44,32 +44,31 @@ pub struct Exc {
     /// The number of its class.
     pub class: u8,
     /// Its argument, if it has one.
-    pub arg: Option<Boxed<Value>>,
+    pub arg: Option<SharedBox<Value>>,
 }
 
 impl Value {
     ghost use Rattle.std.specs.Prelude.{◌≡◌, IfOk};
 
-    /// A copy of this value.
-    #[cycle(copy)]
-    pub fn copy(&self, alloc: Global) -> Result<Value, AllocError>
+    /// The same value, with one more owner of what it shares.
+    pub fn copy(&self) -> Result<Value, AllocError>
         ensures { IfOk result (λ v. v ≡ self.now) }
     {
         match self {
             Value::None => Ok(Value::None),
             Value::Bool(b) => Ok(Value::Bool(*b)),
             Value::Int(n) => Ok(Value::Int(*n)),
-            Value::Text(text) => Ok(Value::Text(text.copy(alloc)?)),
-            Value::Tuple(items) => Ok(Value::Tuple(copy_items(alloc, items.as_slice())?)),
+            Value::Text(text) => Ok(Value::Text(text.copy()?)),
+            Value::Tuple(items) => Ok(Value::Tuple(items.share()?)),
             Value::Function(k) => Ok(Value::Function(*k)),
             Value::Builtin(k) => Ok(Value::Builtin(*k)),
             Value::ExcClass(k) => Ok(Value::ExcClass(*k)),
-            Value::Exc(exc) => Ok(Value::Exc(exc.copy(alloc)?)),
+            Value::Exc(exc) => Ok(Value::Exc(exc.copy()?)),
             Value::Gen(k) => Ok(Value::Gen(*k)),
             Value::Iter(k) => Ok(Value::Iter(*k)),
             Value::Range(start, end, step) => Ok(Value::Range(*start, *end, *step)),
             Value::Done(None) => Ok(Value::Done(None)),
-            Value::Done(Some(exc)) => Ok(Value::Done(Some(exc.copy(alloc)?))),
+            Value::Done(Some(exc)) => Ok(Value::Done(Some(exc.copy()?))),
         }
     }
 }
@@ -77,9 +76,66 @@ impl Value {
 impl Exc {
     ghost use Rattle.std.specs.Prelude.{◌≡◌, IfOk};
 
-    /// A copy of this exception.
-    #[cycle(copy)]
-    pub fn copy(&self, alloc: Global) -> Result<Exc, AllocError>
+    /// The same exception, with one more owner of its argument.
+    pub fn copy(&self) -> Result<Exc, AllocError>
+        ensures { IfOk result (λ e. e ≡ self.now) }
+    {
+        let arg = match &self.arg {
+            None => None,
+            Some(value) => Some(value.share()?),
+        };
+        Ok(Exc {
+            class: self.class,
+            arg,
+        })
+    }
+}
+
+ghost use Rattle.std.specs.Prelude.{◌≡◌, ◌++◌, IfOk, OnOk, OnErr};
+
+/// Adds copies of these values at the end.
+pub fn append_copies(to: &mut Vec<Value>, items: &[Value]) -> Result<(), AllocError>
+    ensures { OnOk result (to.new.items ≡ to.old.items ++ items.now) }
+{
+    for item in items {
+        to.push(item.copy()?)?;
+    }
+    Ok(())
+}
+
+/// Copies of these values, as a tuple.
+pub fn copy_items(alloc: Global, items: &[Value]) -> Result<Tuple, AllocError>
+    ensures { IfOk result (λ copies. copies ≡ items.now) }
+{
+    let mut copies = Vec::with_capacity(alloc, items.len())?;
+    append_copies(&mut copies, items)?;
+    SharedItems::from_vec(copies)
+}
+
+impl Value {
+    ghost use Rattle.std.specs.Prelude.{◌≡◌, IfOk};
+
+    /// The same value, of which nothing is shared.
+    #[cycle(own)]
+    pub fn own(&self, alloc: Global) -> Result<Value, AllocError>
+        ensures { IfOk result (λ v. v ≡ self.now) }
+    {
+        match self {
+            Value::Text(text) => Ok(Value::Text(text.own(alloc)?)),
+            Value::Tuple(items) => Ok(Value::Tuple(own_items(alloc, items.as_slice())?)),
+            Value::Exc(exc) => Ok(Value::Exc(exc.own(alloc)?)),
+            Value::Done(Some(exc)) => Ok(Value::Done(Some(exc.own(alloc)?))),
+            plain => plain.copy(),
+        }
+    }
+}
+
+impl Exc {
+    ghost use Rattle.std.specs.Prelude.{◌≡◌, IfOk};
+
+    /// The same exception, of which nothing is shared.
+    #[cycle(own)]
+    pub fn own(&self, alloc: Global) -> Result<Exc, AllocError>
         ensures { IfOk result (λ e. e ≡ self.now) }
     {
         match &self.arg {
@@ -88,26 +144,24 @@ impl Exc {
                 arg: None,
             }),
             Some(value) => {
-                let value = value.get().copy(alloc)?;
+                let value = value.get().own(alloc)?;
                 Ok(Exc {
                     class: self.class,
-                    arg: Some(Boxed::new(alloc, value)?),
+                    arg: Some(SharedBox::new(alloc, value)?),
                 })
             }
         }
     }
 }
 
-ghost use Rattle.std.specs.Prelude.{◌≡◌, IfOk};
-
-/// A copy of these values, as a tuple.
-#[cycle(copy)]
-pub fn copy_items(alloc: Global, items: &[Value]) -> Result<Tuple, AllocError>
+/// The same values as a tuple, of which nothing is shared.
+#[cycle(own)]
+fn own_items(alloc: Global, items: &[Value]) -> Result<Tuple, AllocError>
     ensures { IfOk result (λ copies. copies ≡ items.now) }
 {
     let mut copies = Vec::with_capacity(alloc, items.len())?;
     for item in items {
-        copies.push(item.copy(alloc)?)?;
+        copies.push(item.own(alloc)?)?;
     }
-    Ok(Items::from_vec(copies))
+    SharedItems::from_vec(copies)
 }

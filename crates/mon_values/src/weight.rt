@@ -1,7 +1,9 @@
 ghost use Rattle.std.specs.Prelude.{◌≡◌, nat_le, map, sum};
-ghost use Rattle.mon_values.specs.Weights.{weight, exc_weight, depth, exc_depth, greatest, left_of};
+ghost use Rattle.mon_values.specs.Weights.{weight, exc_weight, depth, exc_depth, greatest, left_of, made};
+ghost use Rattle.mon_values.specs.declared.value.Value.{Tuple as the_tuple};
 
-use crate::value::{Exc, Value};
+use crate::fault::Trouble;
+use crate::value::{Exc, Tuple, Value};
 
 /// The greatest weight that a value may have.
 pub const MAX_WEIGHT: u64 = 4096;
@@ -99,4 +101,18 @@ pub fn all_nest_at_most(items: &[Value], limit: u64) -> bool
         }
     }
     true
+}
+
+/// The tuple as a value, where it keeps the limits of weight and depth; the weight is tried first.
+#[tactic(auto, using(crate::proofs::Making::items_heavy, crate::proofs::Making::items_deep, crate::proofs::Making::items_made))]
+pub fn made_tuple(items: Tuple) -> Result<Value, Trouble>
+    ensures { result ≡ made (the_tuple items) }
+{
+    let Some(_) = spend_items(items.as_slice(), MAX_WEIGHT - 1) else {
+        return Err(Trouble::TOO_LARGE);
+    };
+    if !all_nest_at_most(items.as_slice(), MAX_DEPTH - 1) {
+        return Err(Trouble::NESTED_TOO_DEEPLY);
+    }
+    Ok(Value::Tuple(items))
 }

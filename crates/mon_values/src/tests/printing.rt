@@ -4,7 +4,6 @@ use crate::print::{exc_text_of, repr, text_of};
 use crate::text::Text;
 use crate::trouble::trouble_exc;
 use crate::value::Value;
-use sqlite_items::Items;
 use std::alloc::{AllocError, Global};
 use std::process::Abort;
 use std::test::Fail;
@@ -213,7 +212,7 @@ fn a_long_name_is_cut(rt: HostRuntime) -> Result<(), Fail> {
 }
 
 fn named_repr(alloc: Global) -> Result<Text, AllocError> {
-    let mut names = Items::new(alloc);
+    let mut names = Vec::new(alloc);
     names.push(Text::from_ascii(alloc, "f")?)?;
     names.push(Text::from_chars(alloc, &['g'])?)?;
     repr(alloc, &Value::Function(1), names.as_slice())

@@ -1,9 +1,9 @@
 use crate::fault::Trouble;
 use crate::print::repr;
-use crate::text::Text;
+use crate::text::{Text, TextBuffer};
 use crate::trouble::trouble_exc;
 use crate::value::{Exc, Value};
-use sqlite_items::{Boxed, Items};
+use mon_shared::{SharedBox, SharedItems};
 use std::alloc::{AllocError, Global};
 
 /// A value to build.
@@ -45,36 +45,36 @@ fn text(alloc: Global, ascii: &str) -> Result<Value, AllocError> {
 }
 
 fn letters(alloc: Global, count: u64) -> Result<Value, AllocError> {
-    let mut text = Text::new(alloc);
+    let mut text = TextBuffer::new(alloc);
     for _turn in 0..count {
         text.push('a')?;
     }
-    Ok(Value::Text(text))
+    Ok(Value::Text(text.into_text()?))
 }
 
 fn nones(alloc: Global, count: u64) -> Result<Value, AllocError> {
-    let mut items = Items::new(alloc);
+    let mut items = Vec::new(alloc);
     for _turn in 0..count {
         items.push(Value::None)?;
     }
-    Ok(Value::Tuple(items))
+    Ok(Value::Tuple(SharedItems::from_vec(items)?))
 }
 
 fn lone(alloc: Global, a: Value) -> Result<Value, AllocError> {
-    let mut items = Items::new(alloc);
+    let mut items = Vec::new(alloc);
     items.push(a)?;
-    Ok(Value::Tuple(items))
+    Ok(Value::Tuple(SharedItems::from_vec(items)?))
 }
 
 fn pair(alloc: Global, a: Value, b: Value) -> Result<Value, AllocError> {
-    let mut items = Items::new(alloc);
+    let mut items = Vec::new(alloc);
     items.push(a)?;
     items.push(b)?;
-    Ok(Value::Tuple(items))
+    Ok(Value::Tuple(SharedItems::from_vec(items)?))
 }
 
 fn nested(alloc: Global, depth: u64) -> Result<Value, AllocError> {
-    let mut deep = Value::Tuple(Items::new(alloc));
+    let mut deep = Value::Tuple(SharedItems::new());
     for _turn in 1..depth {
         deep = lone(alloc, deep)?;
     }
@@ -92,7 +92,7 @@ pub(super) fn raised(alloc: Global, row: u8) -> Result<Value, AllocError> {
 }
 
 fn nested_exc(alloc: Global, class: u8, depth: u64) -> Result<Value, AllocError> {
-    let arg = Some(Boxed::new(alloc, nested(alloc, depth)?)?);
+    let arg = Some(SharedBox::new(alloc, nested(alloc, depth)?)?);
     Ok(Value::Exc(Exc { class, arg }))
 }
 

@@ -1,6 +1,11 @@
 use super::sample::{Sample, build, is_text, prints_as};
 use crate::class::is_subclass;
-use crate::text::Text;
+use crate::compare::compare;
+use crate::contain::contains;
+use crate::index::index;
+use crate::operator::CmpOp;
+use crate::print::repr;
+use crate::text::{Text, TextBuffer};
 use crate::truth::is_true;
 use crate::value::{Value, copy_items};
 use std::alloc::{AllocError, Global};
@@ -49,8 +54,7 @@ fn classes_are_below_their_parents(rt: HostRuntime) {
 
 fn copy_holds(alloc: Global, sample: &Sample) -> Result<bool, AllocError> {
     let v = build(alloc, sample)?;
-    let copy = v.copy(alloc)?;
-    Ok(v.equals(&copy))
+    Ok(v.equals(&v.copy()?) && v.equals(&v.own(alloc)?))
 }
 
 static COPIED_SAMPLES: &[Sample] = &[
@@ -85,11 +89,11 @@ fn items_are_copied(rt: HostRuntime) -> Result<(), Fail> {
 }
 
 fn grown_text(alloc: Global) -> Result<Text, AllocError> {
-    let mut text = Text::from_vec(Vec::new(alloc));
+    let mut text = TextBuffer::new(alloc);
     text.push('a')?;
     text.append(&['b', 'c'])?;
     text.append_ascii("de")?;
-    text.copy(alloc)
+    text.into_text()?.copy()
 }
 
 #[test]
@@ -98,5 +102,30 @@ fn a_text_grows(rt: HostRuntime) -> Result<(), Fail> {
     let text = grown_text(alloc)?;
     assert!(rt; is_text(alloc, &text, "abcde")?);
     assert!(rt; text.len() == 5 && !text.is_empty());
+    Ok(())
+}
+
+fn text_of_chars(alloc: Global, chars: &[char]) -> Result<Value, AllocError> {
+    Ok(Value::Text(Text::from_chars(alloc, chars)?))
+}
+
+fn ends_with_wide(alloc: Global, text: &Value) -> Result<bool, AllocError> {
+    let last = text_of_chars(alloc, &['\u{6f22}'])?;
+    match index(alloc, text, &Value::Int(-1)) {
+        Ok(item) => Ok(item.equals(&last)),
+        Err(_) => Ok(false),
+    }
+}
+
+#[test]
+fn characters_above_127_are_whole(rt: HostRuntime) -> Result<(), Fail> {
+    let alloc = rt.alloc();
+    let text = text_of_chars(alloc, &['z', '\u{e9}', '\u{6f22}'])?;
+    let accent = text_of_chars(alloc, &['\u{e9}'])?;
+    assert!(rt; text.spend(3) == Some(0) && ends_with_wide(alloc, &text)?);
+    assert!(rt; contains(&accent, &text) == Ok(true));
+    assert!(rt; compare(CmpOp::Lt, &text, &accent) == Ok(true));
+    let printed = ['\'', 'z', '\u{e9}', '\u{6f22}', '\''];
+    assert!(rt; repr(alloc, &text, &[])?.chars() == printed.as_slice());
     Ok(())
 }

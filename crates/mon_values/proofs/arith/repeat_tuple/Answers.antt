@@ -27,13 +27,3 @@ returns-in_default c = making.refused (making.items_too_large c.args.count c.arg
 pub returns-then-not-product_fits : goal.returns-then-not-product_fits
 returns-then-not-product_fits c =
     making.refused (making.product_too_large c.args.count c.args.items.now c.spend_items.result c.in-Some.left c.product_fits.result c.spend_items.ensures c.in-Some.is c.product_fits.ensures c.if-not-product_fits.true)
-
-pub returns-then-not-all_nest_at_most : goal.returns-then-not-all_nest_at_most
-returns-then-not-all_nest_at_most c =
-    making.refused (making.items_too_deep c.args.count c.args.items.now c.spend_items.result c.in-Some.left c.product_fits.result c.all_nest_at_most.result (omega arith) c.spend_items.ensures c.in-Some.is c.product_fits.ensures c.if-not-product_fits.false c.all_nest_at_most.ensures c.if-not-all_nest_at_most.true)
-
-pub returns : goal.returns
-returns c =
-    making.given
-    (making.items_repeated c.args.count c.args.items.now c.spend_items.result c.in-Some.left c.product_fits.result c.all_nest_at_most.result (omega arith) c.spend_items.ensures c.in-Some.is c.product_fits.ensures c.if-not-product_fits.false c.all_nest_at_most.ensures c.if-not-all_nest_at_most.false)
-    (ap Tuple c.in_ok-copies_of_items.ensures)
