@@ -9,8 +9,6 @@ mod literal;
 mod number;
 mod print;
 mod sequence;
-#[cfg(test)]
-mod tests;
 
 pub use call::call_builtin;
 pub use given::{BuiltinFault, Given};

@@ -8,8 +8,6 @@ mod handling;
 mod in_place;
 mod iteration;
 mod stack;
-#[cfg(test)]
-mod tests;
 
 pub use call::{By, Call, Generator, Origin};
 pub use fault::{FrameFault, IterFault};

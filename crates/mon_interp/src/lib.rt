@@ -19,8 +19,6 @@ mod quick;
 mod sequence;
 mod settle;
 mod step;
-#[cfg(test)]
-mod tests;
 mod thread;
 
 pub use thread::{AdvanceFault, EntryFault, Stop, Thread};

@@ -14,8 +14,6 @@ mod source;
 mod status;
 mod store;
 mod system;
-#[cfg(test)]
-mod tests;
 
 pub use command::replay_words;
 pub use host::host_serial;
@@ -25,6 +23,7 @@ pub use read::read_plan;
 pub use report::print_report;
 pub use serial::run_serial;
 pub use sink::{Sink, SinkFault, write_all};
+pub use source::module;
 pub use status::Status;
 pub use store::{Store, StoreFault};
 pub use system::{FileStore, StdoutSink};

@@ -362,6 +362,3 @@ pub fn read_plan(alloc: Global, program: &Program, text: &[u8]) -> Result<Plan, 
     let lines = six_lines(text).ok_or(PlanFault::NotBuilt)?;
     plan_of_lines(alloc, program, &lines)
 }
-
-#[cfg(test)]
-mod tests;

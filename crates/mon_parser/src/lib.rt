@@ -20,5 +20,3 @@ pub use laws::{
 };
 pub use parser::{SyntaxFault, parse};
 
-#[cfg(test)]
-mod tests;

@@ -11,8 +11,6 @@ pub mod index;
 pub mod operator;
 pub mod print;
 pub mod range;
-#[cfg(test)]
-mod tests;
 pub mod text;
 pub mod trouble;
 pub mod truth;

@@ -1,0 +1,5 @@
+//! Tests of `mon_builtins`.
+#![tactic(auto)]
+
+#[cfg(test)]
+mod tests;

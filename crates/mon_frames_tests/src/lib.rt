@@ -1,0 +1,5 @@
+//! Tests of `mon_frames`.
+#![tactic(auto)]
+
+#[cfg(test)]
+mod tests;

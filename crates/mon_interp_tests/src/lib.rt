@@ -1,0 +1,5 @@
+//! Tests of `mon_interp`.
+#![tactic(auto)]
+
+#[cfg(test)]
+mod tests;

@@ -1,0 +1,5 @@
+//! Tests of `mon_lexer`.
+#![tactic(auto)]
+
+#[cfg(test)]
+mod tests;

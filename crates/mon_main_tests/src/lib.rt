@@ -1,0 +1,5 @@
+//! Tests of `mon_main`.
+#![tactic(auto)]
+
+#[cfg(test)]
+mod tests;

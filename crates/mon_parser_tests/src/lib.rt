@@ -1,0 +1,5 @@
+//! Tests of `mon_parser`.
+#![tactic(auto)]
+
+#[cfg(test)]
+mod tests;

@@ -1,0 +1,5 @@
+//! Tests of `mon_values`.
+#![tactic(auto)]
+
+#[cfg(test)]
+mod tests;
