@@ -15,7 +15,7 @@ use Rattle.mon_frames.specs.declared.call.Call.{Call}
 use Rattle.mon_frames.specs.declared.call.Generator.{Generator}
 use Rattle.mon_frames.specs.declared.call.Origin.{Origin}
 use Rattle.mon_frames.specs.declared.call.Origin.TheVariants.{Plain, Generator as Generated}
-use Rattle.mon_frames.specs.Calls.{handler_at, handler_in, handler_due}
+use Rattle.mon_frames.specs.Calls.{handler_in, handler_due}
 use Rattle.mon_machine.specs.declared.mode.Mode.{Mode}
 use Rattle.mon_machine.specs.declared.mode.Ending.{Ending}
 use Rattle.mon_machine.specs.State.{State, Move}
