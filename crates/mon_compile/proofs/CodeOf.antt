@@ -2,20 +2,20 @@
 use Rattle.std.proofs.Common.{◌≡◌, ℕ, Bool, false, List, map, sym, ap, ◌∙◌}
 use Rattle.std.specs.Prelude.{Option, Some, None, ℤ}
 use Rattle.mon_values.specs.declared.value.Value as value
-use Rattle.mon_parser.specs.declared.tree.Simple.{Simple}
-use Rattle.mon_parser.specs.declared.tree.Targets.{Targets}
-use Rattle.mon_parser.specs.declared.tree.Expression.{Expression}
-use Rattle.mon_parser.specs.declared.tree.Expression as tree
-use Rattle.mon_parser.specs.declared.tree.Expression.TheFolds.{fold-roll-Expression}
-use Rattle.mon_parser.specs.declared.tree.Expression.TheOpen.{Expression-F}
-use Rattle.mon_parser.specs.declared.tree.Expression.TheViews as node
-use Rattle.mon_parser.specs.declared.tree.Handler.{Handler}
-use Rattle.mon_parser.specs.declared.tree.Statement.{Statement}
-use Rattle.mon_parser.specs.declared.tree.Statement as statement
-use Rattle.mon_parser.specs.declared.tree.Statement.TheFolds.{fold-roll-Statement, fold-roll-Handler}
-use Rattle.mon_parser.specs.declared.tree.Statement.TheOpen.{Statement-F}
-use Rattle.mon_parser.specs.declared.tree.Statement.TheViews as compound
-use Rattle.mon_parser.specs.declared.tree.Statement.TheViews.{roll-Handler}
+use Rattle.mon_trees.specs.declared.tree.Simple.{Simple}
+use Rattle.mon_trees.specs.declared.tree.Targets.{Targets}
+use Rattle.mon_trees.specs.declared.tree.Expression.{Expression}
+use Rattle.mon_trees.specs.declared.tree.Expression as tree
+use Rattle.mon_trees.specs.declared.tree.Expression.TheFolds.{fold-roll-Expression}
+use Rattle.mon_trees.specs.declared.tree.Expression.TheOpen.{Expression-F}
+use Rattle.mon_trees.specs.declared.tree.Expression.TheViews as node
+use Rattle.mon_trees.specs.declared.tree.Handler.{Handler}
+use Rattle.mon_trees.specs.declared.tree.Statement.{Statement}
+use Rattle.mon_trees.specs.declared.tree.Statement as statement
+use Rattle.mon_trees.specs.declared.tree.Statement.TheFolds.{fold-roll-Statement, fold-roll-Handler}
+use Rattle.mon_trees.specs.declared.tree.Statement.TheOpen.{Statement-F}
+use Rattle.mon_trees.specs.declared.tree.Statement.TheViews as compound
+use Rattle.mon_trees.specs.declared.tree.Statement.TheViews.{roll-Handler}
 use Rattle.mon_compile.specs.Expressions.{Coder, Locals, name_code, constant_code, or_none, yield_code, expression_step, expression_code}
 use Rattle.mon_compile.specs.Statements.{is_text_step, is_lone_text, Scheme, ClauseScheme, while_code, for_code, try_code, coder_of, simple_code, statement_step, clause_code, handler_step, statement_code, block_code, handler_code}
 

@@ -9,18 +9,18 @@ use Rattle.mon_values.specs.declared.value.Value as value
 use Rattle.mon_values.specs.declared.value.Value.TheOpen.{Value-F}
 use Rattle.mon_values.specs.declared.value.Value.TheFolds.{fold-roll-Value}
 use Rattle.mon_values.specs.declared.value.Value.TheViews as views
-use Rattle.mon_parser.specs.declared.tree.Constant.{Constant}
-use Rattle.mon_parser.specs.declared.tree.Constant as plain
-use Rattle.mon_parser.specs.declared.tree.Constant.TheOpen.{Constant-F}
-use Rattle.mon_parser.specs.declared.tree.Constant.TheFolds.{fold-Constant, fold-roll-Constant}
-use Rattle.mon_parser.specs.declared.tree.Constant.TheViews as written
-use Rattle.mon_parser.specs.declared.tree.Expression.{Expression}
-use Rattle.mon_parser.specs.declared.tree.Expression as leaf
-use Rattle.mon_parser.specs.declared.tree.Expression.TheOpen.{Expression-F}
-use Rattle.mon_parser.specs.declared.tree.Expression.TheFolds.{fold-roll-Expression, map-Expression}
-use Rattle.mon_parser.specs.declared.tree.Expression.TheViews.{roll-Expression}
-use Rattle.mon_parser.specs.declared.tree.Expression.TheViews as leaves
-use Rattle.mon_parser.specs.declared.tree.Single.{Single}
+use Rattle.mon_trees.specs.declared.tree.Constant.{Constant}
+use Rattle.mon_trees.specs.declared.tree.Constant as plain
+use Rattle.mon_trees.specs.declared.tree.Constant.TheOpen.{Constant-F}
+use Rattle.mon_trees.specs.declared.tree.Constant.TheFolds.{fold-Constant, fold-roll-Constant}
+use Rattle.mon_trees.specs.declared.tree.Constant.TheViews as written
+use Rattle.mon_trees.specs.declared.tree.Expression.{Expression}
+use Rattle.mon_trees.specs.declared.tree.Expression as leaf
+use Rattle.mon_trees.specs.declared.tree.Expression.TheOpen.{Expression-F}
+use Rattle.mon_trees.specs.declared.tree.Expression.TheFolds.{fold-roll-Expression, map-Expression}
+use Rattle.mon_trees.specs.declared.tree.Expression.TheViews.{roll-Expression}
+use Rattle.mon_trees.specs.declared.tree.Expression.TheViews as leaves
+use Rattle.mon_trees.specs.declared.tree.Single.{Single}
 use Rattle.mon_compile.specs.Expressions.{single_value}
 use Rattle.mon_compile.specs.Faults.{is_large, large_step, has_large}
 use Rattle.mon_compile.specs.Modules.{constant_value, constant_value_step}

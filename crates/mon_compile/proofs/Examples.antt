@@ -3,15 +3,15 @@ use Rattle.std.proofs.Common.{◌≡◌, ℕ, true, false, List, [], ◌∷◌, 
 use Rattle.std.specs.Prelude.{Option, Some, None, codes, pos}
 use Rattle.mon_events.specs.declared.op.Op.{Op}
 use Rattle.mon_values.specs.declared.value.Value as value
-use Rattle.mon_parser.specs.declared.tree.BinaryOperator.{BinaryOperator}
-use Rattle.mon_parser.specs.declared.tree.Expression as tree
-use Rattle.mon_parser.specs.declared.tree.Expression.TheViews as node
-use Rattle.mon_parser.specs.declared.tree.Simple.TheVariants as simple
-use Rattle.mon_parser.specs.declared.tree.Statement.{Statement}
-use Rattle.mon_parser.specs.declared.tree.Statement as statement
-use Rattle.mon_parser.specs.declared.tree.Statement.TheViews as compound
-use Rattle.mon_parser.specs.declared.tree.Statement.TheViews.{roll-Handler}
-use Rattle.mon_parser.specs.declared.tree.Targets.TheVariants as targets
+use Rattle.mon_trees.specs.declared.tree.BinaryOperator.{BinaryOperator}
+use Rattle.mon_trees.specs.declared.tree.Expression as tree
+use Rattle.mon_trees.specs.declared.tree.Expression.TheViews as node
+use Rattle.mon_trees.specs.declared.tree.Simple.TheVariants as simple
+use Rattle.mon_trees.specs.declared.tree.Statement.{Statement}
+use Rattle.mon_trees.specs.declared.tree.Statement as statement
+use Rattle.mon_trees.specs.declared.tree.Statement.TheViews as compound
+use Rattle.mon_trees.specs.declared.tree.Statement.TheViews.{roll-Handler}
+use Rattle.mon_trees.specs.declared.tree.Targets.TheVariants as targets
 use Rattle.mon_compile.specs.declared.assembly.Instruction.{Instruction}
 use Rattle.mon_compile.specs.declared.assembly.Argument.{Argument}
 use Rattle.mon_compile.specs.declared.assembly.Argument.TheVariants.{Number, Constant, Destination}

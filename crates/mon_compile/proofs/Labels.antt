@@ -3,14 +3,14 @@ use Rattle.std.proofs.Common.{◌≡◌, ℕ, Bool, true, false, List, [], ◌�
 use Rattle.std.specs.Prelude.{Option, Some, None}
 use Rattle.mon_events.specs.declared.op.Op.{Op}
 use Rattle.mon_values.specs.declared.value.Value as value
-use Rattle.mon_parser.specs.declared.tree.Expression.{Expression}
-use Rattle.mon_parser.specs.declared.tree.Simple.{Simple}
-use Rattle.mon_parser.specs.declared.tree.Simple.TheVariants as simple
-use Rattle.mon_parser.specs.declared.tree.Statement.{Statement}
-use Rattle.mon_parser.specs.declared.tree.Statement.TheViews.{roll-Statement, roll-Handler}
-use Rattle.mon_parser.specs.declared.tree.Statement.TheOpen.{Statement-F, Handler-F}
-use Rattle.mon_parser.specs.declared.tree.Statement.TheFolds.{ind-Statement, ind-Handler, fold-roll-Statement, fold-roll-Handler, map-Statement, map-Handler}
-use Rattle.mon_parser.specs.declared.tree.Handler.{Handler}
+use Rattle.mon_trees.specs.declared.tree.Expression.{Expression}
+use Rattle.mon_trees.specs.declared.tree.Simple.{Simple}
+use Rattle.mon_trees.specs.declared.tree.Simple.TheVariants as simple
+use Rattle.mon_trees.specs.declared.tree.Statement.{Statement}
+use Rattle.mon_trees.specs.declared.tree.Statement.TheViews.{roll-Statement, roll-Handler}
+use Rattle.mon_trees.specs.declared.tree.Statement.TheOpen.{Statement-F, Handler-F}
+use Rattle.mon_trees.specs.declared.tree.Statement.TheFolds.{ind-Statement, ind-Handler, fold-roll-Statement, fold-roll-Handler, map-Statement, map-Handler}
+use Rattle.mon_trees.specs.declared.tree.Handler.{Handler}
 use Rattle.mon_compile.specs.declared.assembly.Label.{Label}
 use Rattle.mon_compile.specs.Expressions.{Coder, Locals, expression_code, constant_code, number_of_local, binary_number}
 use Rattle.mon_compile.specs.Statements.{Scheme, ClauseScheme, block, is_lone_text, lone_code, coder_of, simple_code, statement_step, clause_code, handler_step, statement_code, handler_code}

@@ -2,8 +2,8 @@
 use Rattle.std.proofs.Common.{◌≡◌, ℕ, ◌+◌, List, [], ◌∷◌, ◌++◌, length, map, refl, sym, ap, ◌∙◌}
 use Rattle.std.proofs.lemmas.List.{map-append, length-map}
 use Rattle.mon_events.specs.declared.op.Op.{Op}
-use Rattle.mon_parser.specs.declared.tree.Targets.{Targets}
-use Rattle.mon_parser.specs.declared.tree.Targets.TheVariants as targets
+use Rattle.mon_trees.specs.declared.tree.Targets.{Targets}
+use Rattle.mon_trees.specs.declared.tree.Targets.TheVariants as targets
 use Rattle.mon_compile.specs.declared.assembly.Label.{Label}
 use Rattle.mon_compile.specs.declared.assembly.Label.TheVariants.{At}
 use Rattle.mon_compile.specs.declared.assembly.Argument.TheVariants.{Number, Destination}

@@ -2,8 +2,8 @@
 use Rattle.std.proofs.Common.{◌≡◌, ℕ, ◌+◌, ◌<◌, ◌||◌, Bool, true, false, List, [], ◌∷◌, ◌++◌, length, take, drop, get_or, refl, ap, sym, ◌∙◌}
 use Rattle.std.specs.Prelude.{Option, Some, None, if◌then◌else◌}
 use Rattle.std.proofs.lemmas.List.{take_more}
-use Rattle.mon_parser.specs.declared.tree.ModuleItem.{ModuleItem}
-use Rattle.mon_parser.specs.declared.tree.ModuleItem.TheVariants as item
+use Rattle.mon_trees.specs.declared.tree.ModuleItem.{ModuleItem}
+use Rattle.mon_trees.specs.declared.tree.ModuleItem.TheVariants as item
 use Rattle.mon_compile.specs.BoundNames.{item_binds, binds, duplicate_at}
 use Rattle.mon_compile.specs.Expressions.{is_local}
 use Rattle.mon_compile.specs.Faults.{has_twin, duplicate}

@@ -1,12 +1,12 @@
 -- Folds of a statement, one layer down.
 use Rattle.std.proofs.Common.{◌≡◌, ℕ, List, map, ap, sym, ◌∙◌}
-use Rattle.mon_parser.specs.declared.tree.Expression.{Expression}
-use Rattle.mon_parser.specs.declared.tree.Handler.{Handler}
-use Rattle.mon_parser.specs.declared.tree.Targets.{Targets}
-use Rattle.mon_parser.specs.declared.tree.Statement.{Statement}
-use Rattle.mon_parser.specs.declared.tree.Statement.TheOpen.{Statement-F, Handler-F}
-use Rattle.mon_parser.specs.declared.tree.Statement.TheFolds.{fold-Statement, fold-Handler, fold-roll-Statement}
-use Rattle.mon_parser.specs.declared.tree.Statement.TheViews as views
+use Rattle.mon_trees.specs.declared.tree.Expression.{Expression}
+use Rattle.mon_trees.specs.declared.tree.Handler.{Handler}
+use Rattle.mon_trees.specs.declared.tree.Targets.{Targets}
+use Rattle.mon_trees.specs.declared.tree.Statement.{Statement}
+use Rattle.mon_trees.specs.declared.tree.Statement.TheOpen.{Statement-F, Handler-F}
+use Rattle.mon_trees.specs.declared.tree.Statement.TheFolds.{fold-Statement, fold-Handler, fold-roll-Statement}
+use Rattle.mon_trees.specs.declared.tree.Statement.TheViews as views
 
 pub at_if : (S H : Type 0) (step : Statement-F S H → S) (clause : Handler-F S H → H) (line : ℕ) (c : Expression) (a b : List Statement)
     → fold-Statement S H step clause (views.If line c a b) ≡ step (Statement-F.If line c (map (fold-Statement S H step clause) a) (map (fold-Statement S H step clause) b))

@@ -1,7 +1,7 @@
 -- What is said of statements, of an `except` clause.
 use Rattle.std.specs.Prelude.{ℕ, Bool, List}
-use Rattle.mon_parser.specs.declared.tree.Handler.{Handler}
-use Rattle.mon_parser.specs.declared.tree.Statement.TheFolds.{fold-Handler}
+use Rattle.mon_trees.specs.declared.tree.Handler.{Handler}
+use Rattle.mon_trees.specs.declared.tree.Statement.TheFolds.{fold-Handler}
 use Rattle.mon_compile.specs.Functions.{names_step, handler_names_step, statement_yields_step, handler_yields_step}
 use Rattle.mon_compile.specs.Faults.{loose_step, loose_handler_step, large_lines_step, large_handler_step, finally_lines_step, finally_handler_step}
 

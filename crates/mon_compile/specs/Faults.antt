@@ -3,18 +3,18 @@ use Rattle.std.specs.Prelude.{ℕ, ◌+◌, ◌||◌, min, nat_lt, Bool, true, f
 use Rattle.mon_values.specs.declared.value.Value.{Value}
 use Rattle.mon_values.specs.declared.value.Value as value
 use Rattle.mon_values.specs.Weights.{weight, depth, most_weight, most_depth}
-use Rattle.mon_parser.specs.declared.tree.Expression.{Expression}
-use Rattle.mon_parser.specs.declared.tree.Expression.TheOpen.{Expression-F}
-use Rattle.mon_parser.specs.declared.tree.Expression.TheFolds.{fold-Expression}
-use Rattle.mon_parser.specs.declared.tree.Function.{Function}
-use Rattle.mon_parser.specs.declared.tree.Module.{Module}
-use Rattle.mon_parser.specs.declared.tree.ModuleItem.{ModuleItem}
-use Rattle.mon_parser.specs.declared.tree.ModuleItem.TheVariants as item
-use Rattle.mon_parser.specs.declared.tree.Simple.{Simple}
-use Rattle.mon_parser.specs.declared.tree.Simple.TheVariants as simple
-use Rattle.mon_parser.specs.declared.tree.Statement.{Statement}
-use Rattle.mon_parser.specs.declared.tree.Statement.TheOpen.{Statement-F, Handler-F}
-use Rattle.mon_parser.specs.declared.tree.Statement.TheFolds.{fold-Statement}
+use Rattle.mon_trees.specs.declared.tree.Expression.{Expression}
+use Rattle.mon_trees.specs.declared.tree.Expression.TheOpen.{Expression-F}
+use Rattle.mon_trees.specs.declared.tree.Expression.TheFolds.{fold-Expression}
+use Rattle.mon_trees.specs.declared.tree.Function.{Function}
+use Rattle.mon_trees.specs.declared.tree.Module.{Module}
+use Rattle.mon_trees.specs.declared.tree.ModuleItem.{ModuleItem}
+use Rattle.mon_trees.specs.declared.tree.ModuleItem.TheVariants as item
+use Rattle.mon_trees.specs.declared.tree.Simple.{Simple}
+use Rattle.mon_trees.specs.declared.tree.Simple.TheVariants as simple
+use Rattle.mon_trees.specs.declared.tree.Statement.{Statement}
+use Rattle.mon_trees.specs.declared.tree.Statement.TheOpen.{Statement-F, Handler-F}
+use Rattle.mon_trees.specs.declared.tree.Statement.TheFolds.{fold-Statement}
 use Rattle.mon_compile.specs.declared.fault.CompileFault.{CompileFault}
 use Rattle.mon_compile.specs.declared.fault.CompileFault.TheVariants.{DuplicateName, Misplaced, TooLarge, NotBuilt, TooManyLocations}
 use Rattle.mon_compile.specs.Expressions.{single_value, is_local}

@@ -6,7 +6,7 @@ use Rattle.mon_code.specs.Checked.{follows_line}
 use Rattle.mon_code.specs.declared.program.Code.{Code}
 use Rattle.mon_code.specs.declared.program.Handler.{Handler}
 use Rattle.mon_code.specs.declared.program.Location.{Location}
-use Rattle.mon_parser.specs.declared.tree.Function.{Function}
+use Rattle.mon_trees.specs.declared.tree.Function.{Function}
 use Rattle.mon_compile.specs.declared.assembly.Instruction.{Instruction}
 use Rattle.mon_compile.specs.Functions.{function_code}
 use Rattle.mon_compile.specs.Modules.{unmarked}

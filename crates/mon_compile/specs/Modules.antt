@@ -8,13 +8,13 @@ use Rattle.mon_code.specs.Programs.{Parts}
 use Rattle.mon_code.specs.Checked.{is_marked, is_safe}
 use Rattle.mon_values.specs.declared.value.Value.{Value}
 use Rattle.mon_values.specs.declared.value.Value as value
-use Rattle.mon_parser.specs.declared.tree.Constant.{Constant as Written}
-use Rattle.mon_parser.specs.declared.tree.Constant.TheOpen.{Constant-F}
-use Rattle.mon_parser.specs.declared.tree.Constant.TheFolds.{fold-Constant}
-use Rattle.mon_parser.specs.declared.tree.Function.{Function}
-use Rattle.mon_parser.specs.declared.tree.Module.{Module}
-use Rattle.mon_parser.specs.declared.tree.ModuleItem.{ModuleItem}
-use Rattle.mon_parser.specs.declared.tree.ModuleItem.TheVariants as item
+use Rattle.mon_trees.specs.declared.tree.Constant.{Constant as Written}
+use Rattle.mon_trees.specs.declared.tree.Constant.TheOpen.{Constant-F}
+use Rattle.mon_trees.specs.declared.tree.Constant.TheFolds.{fold-Constant}
+use Rattle.mon_trees.specs.declared.tree.Function.{Function}
+use Rattle.mon_trees.specs.declared.tree.Module.{Module}
+use Rattle.mon_trees.specs.declared.tree.ModuleItem.{ModuleItem}
+use Rattle.mon_trees.specs.declared.tree.ModuleItem.TheVariants as item
 use Rattle.mon_compile.specs.declared.assembly.Instruction.{Instruction}
 use Rattle.mon_compile.specs.declared.assembly.Argument.{Argument}
 use Rattle.mon_compile.specs.declared.assembly.Argument.TheVariants.{Number, Constant, Name, Destination}

@@ -1,16 +1,16 @@
 -- The code of a statement in its context.
 use Rattle.std.specs.Prelude.{ℕ, ◌+◌, Bool, true, false, if◌then◌else◌, List, [], ◌∷◌, ◌++◌, length, map, Option, Some, None}
 use Rattle.mon_events.specs.declared.op.Op.{Op}
-use Rattle.mon_parser.specs.declared.tree.Expression.{Expression}
-use Rattle.mon_parser.specs.declared.tree.Expression.TheOpen.{Expression-F}
-use Rattle.mon_parser.specs.declared.tree.Expression.TheFolds.{fold-Expression}
-use Rattle.mon_parser.specs.declared.tree.Simple.{Simple}
-use Rattle.mon_parser.specs.declared.tree.Simple.TheVariants as simple
-use Rattle.mon_parser.specs.declared.tree.Targets.{Targets}
-use Rattle.mon_parser.specs.declared.tree.Statement.{Statement}
-use Rattle.mon_parser.specs.declared.tree.Statement.TheOpen.{Statement-F, Handler-F}
-use Rattle.mon_parser.specs.declared.tree.Statement.TheFolds.{fold-Statement, fold-Handler}
-use Rattle.mon_parser.specs.declared.tree.Handler.{Handler}
+use Rattle.mon_trees.specs.declared.tree.Expression.{Expression}
+use Rattle.mon_trees.specs.declared.tree.Expression.TheOpen.{Expression-F}
+use Rattle.mon_trees.specs.declared.tree.Expression.TheFolds.{fold-Expression}
+use Rattle.mon_trees.specs.declared.tree.Simple.{Simple}
+use Rattle.mon_trees.specs.declared.tree.Simple.TheVariants as simple
+use Rattle.mon_trees.specs.declared.tree.Targets.{Targets}
+use Rattle.mon_trees.specs.declared.tree.Statement.{Statement}
+use Rattle.mon_trees.specs.declared.tree.Statement.TheOpen.{Statement-F, Handler-F}
+use Rattle.mon_trees.specs.declared.tree.Statement.TheFolds.{fold-Statement, fold-Handler}
+use Rattle.mon_trees.specs.declared.tree.Handler.{Handler}
 use Rattle.mon_compile.specs.declared.assembly.Argument.TheVariants.{Number, Destination}
 use Rattle.mon_compile.specs.declared.assembly.Label.{Label}
 use Rattle.mon_compile.specs.declared.assembly.Label.TheVariants.{At}

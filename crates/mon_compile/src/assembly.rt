@@ -1,7 +1,7 @@
 //! Instructions whose destinations may still be open.
 
 use mon_events::Op;
-use mon_lexer::Text;
+use mon_trees::Text;
 use mon_values::value::Value;
 
 /// Where a jump or a handler goes: to an index, or, while that is not known, to the end or the handler of the statement

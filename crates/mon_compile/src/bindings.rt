@@ -6,8 +6,8 @@ ghost use Rattle.mon_compile.specs.Clauses as clause;
 ghost use Rattle.mon_compile.specs.Functions as spec;
 
 use crate::scope::{copy, is_local};
-use mon_lexer::Text;
-use mon_parser::tree::{Function, Handler, Simple, Statement, Targets};
+use mon_trees::Text;
+use mon_trees::tree::{Function, Handler, Simple, Statement, Targets};
 use sqlite_items::Items;
 use std::alloc::{AllocError, Global};
 

@@ -11,7 +11,7 @@ use crate::assembly::{Label, Spot};
 use crate::emitter::Emitter;
 use crate::surroundings::Surroundings;
 use mon_events::Op;
-use mon_parser::tree::{Expression, Handler, Statement};
+use mon_trees::tree::{Expression, Handler, Statement};
 use std::alloc::AllocError;
 
 impl Spot {

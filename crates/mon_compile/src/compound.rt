@@ -11,7 +11,7 @@ use crate::assembly::Label;
 use crate::emitter::Emitter;
 use crate::surroundings::Surroundings;
 use mon_events::Op;
-use mon_parser::tree::{Expression, Statement, Targets};
+use mon_trees::tree::{Expression, Statement, Targets};
 use std::alloc::AllocError;
 
 impl Emitter<'_> {

@@ -5,8 +5,8 @@ ghost use Rattle.mon_compile.specs.Faults as spec;
 ghost use Rattle.mon_compile.specs.BoundNames as bound_names;
 
 use crate::scope::{has_twin, is_same};
-use mon_lexer::Text;
-use mon_parser::tree::ModuleItem;
+use mon_trees::Text;
+use mon_trees::tree::ModuleItem;
 
 /// The line of the first item that binds a name that an earlier item binds, or is a `def` with two equal parameters.
 pub fn duplicate(items: &[ModuleItem]) -> Option<u32>

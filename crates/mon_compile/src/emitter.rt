@@ -15,7 +15,7 @@ use crate::scope::{copy, is_local, number_of_local};
 use crate::settle::settle;
 use crate::surroundings::more;
 use mon_events::Op;
-use mon_lexer::Text;
+use mon_trees::Text;
 use mon_values::value::Value;
 use sqlite_items::Items;
 use std::alloc::{AllocError, Global};

@@ -11,7 +11,7 @@ use crate::assembly::Spot;
 use crate::emitter::Emitter;
 use mon_code::{arith_number, cmp_number};
 use mon_events::Op;
-use mon_parser::tree::{BinaryOperator, Comparison, Expression, Method, Single};
+use mon_trees::tree::{BinaryOperator, Comparison, Expression, Method, Single};
 use mon_values::operator::{ArithOp, CmpOp};
 use mon_values::value::Value;
 use std::alloc::AllocError;

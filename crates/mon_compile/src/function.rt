@@ -9,8 +9,8 @@ use crate::emitter::Emitter;
 use crate::surroundings::Surroundings;
 use crate::yields::is_generator;
 use mon_events::Op;
-use mon_lexer::Text;
-use mon_parser::tree::Function;
+use mon_trees::Text;
+use mon_trees::tree::Function;
 use mon_values::value::Value;
 use std::alloc::{AllocError, Global};
 

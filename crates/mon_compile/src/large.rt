@@ -10,8 +10,8 @@ ghost use Rattle.mon_compile.specs.Modules.{constant_value};
 
 use crate::earlier::earlier;
 use crate::simple::is_lone_text;
-use mon_lexer::Text;
-use mon_parser::tree::{Constant, Expression, Handler, ModuleItem, Simple, Statement};
+use mon_trees::Text;
+use mon_trees::tree::{Constant, Expression, Handler, ModuleItem, Simple, Statement};
 use mon_values::weight::{MAX_DEPTH, MAX_WEIGHT};
 
 /// The least line of a statement, of a clause's header or of a constant of the module that has a constant over the limits.

@@ -8,7 +8,7 @@ ghost use Rattle.mon_compile.specs.Modules.{functions_of};
 
 use crate::bindings::bindings;
 use crate::earlier::earlier;
-use mon_parser::tree::{Function, Handler, ModuleItem, Simple, Statement};
+use mon_trees::tree::{Function, Handler, ModuleItem, Simple, Statement};
 use std::alloc::{AllocError, Global};
 
 /// The most locals that a function may have.

@@ -11,7 +11,7 @@ use crate::fault::CompileFault;
 use crate::function::function_code;
 use crate::tree_fault::tree_fault;
 use mon_code::{Code, ModuleConstant, Program};
-use mon_parser::tree::{Constant, Function, Module, ModuleItem};
+use mon_trees::tree::{Constant, Function, Module, ModuleItem};
 use mon_values::text::Text;
 use mon_values::value::Value;
 use sqlite_items::Items;
@@ -150,6 +150,3 @@ fn values_of(alloc: Global, constants: &[Constant]) -> Result<Items<Value>, Allo
     }
     Ok(values)
 }
-
-#[cfg(test)]
-mod tests;

@@ -5,7 +5,7 @@ ghost use Rattle.mon_code.specs.Programs.{is_text};
 ghost use Rattle.mon_compile.specs.Expressions as spec;
 ghost use Rattle.mon_compile.specs.Faults.{has_twin as is_twice};
 
-use mon_lexer::Text;
+use mon_trees::Text;
 use sqlite_items::Items;
 use std::alloc::{AllocError, Global};
 

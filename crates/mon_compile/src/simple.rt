@@ -14,8 +14,8 @@ use crate::emitter::Emitter;
 use crate::expressions::binary_number;
 use crate::surroundings::Surroundings;
 use mon_events::Op;
-use mon_lexer::Text;
-use mon_parser::tree::{BinaryOperator, Expression, Simple, Targets};
+use mon_trees::Text;
+use mon_trees::tree::{BinaryOperator, Expression, Simple, Targets};
 use mon_values::value::Value;
 use std::alloc::AllocError;
 

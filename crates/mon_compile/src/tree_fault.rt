@@ -8,7 +8,7 @@ use crate::fault::CompileFault;
 use crate::large::large;
 use crate::misplaced::misplaced;
 use crate::unbuilt::unbuilt;
-use mon_parser::tree::Module;
+use mon_trees::tree::Module;
 use std::alloc::{AllocError, Global};
 
 /// The first fault of a module, but for too many locations.

@@ -8,7 +8,7 @@ ghost use Rattle.mon_compile.specs.Modules.{functions_of};
 
 use crate::earlier::earlier;
 use crate::yields::yield_in_block;
-use mon_parser::tree::{Function, Handler, ModuleItem, Statement};
+use mon_trees::tree::{Function, Handler, ModuleItem, Statement};
 
 /// The least line of a `yield`, or of a `try` with a `finally`.
 pub fn unbuilt(items: &[ModuleItem]) -> Option<u32>

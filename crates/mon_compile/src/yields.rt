@@ -6,7 +6,7 @@ ghost use Rattle.mon_compile.specs.Faults.{least};
 ghost use Rattle.mon_compile.specs.Functions as spec;
 
 use crate::earlier::earlier;
-use mon_parser::tree::{Expression, Function, Handler, Simple, Statement};
+use mon_trees::tree::{Expression, Function, Handler, Simple, Statement};
 
 /// Whether a function has a `yield`.
 pub fn is_generator(function: &Function) -> bool

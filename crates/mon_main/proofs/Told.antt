@@ -4,7 +4,7 @@ use Rattle.std.proofs.lemmas.List.{take_min}
 use Rattle.std.specs.Prelude.{Option, Some, None, IsSome}
 use Rattle.mon_code.specs.Programs.{Parts}
 use Rattle.mon_parser.specs.Texts.{Reading, ReadAs, Misspelled, Underived, Parsed}
-use Rattle.mon_parser.specs.declared.tree.Module.{Module}
+use Rattle.mon_trees.specs.declared.tree.Module.{Module}
 use Rattle.mon_parser.proofs.Texts.{text_read_once}
 use Rattle.mon_main.proofs.Limits.{plan_of-take, read_as-take, read_of}
 use Rattle.mon_compile.specs.Faults.{compile_fault}

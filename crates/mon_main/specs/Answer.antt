@@ -4,7 +4,7 @@ use Rattle.std.specs.Prelude.{◌≡◌, ℕ, List, Option, Some, None, ◌⊎�
 use Rattle.mon_code.specs.Programs.{Parts}
 use Rattle.mon_main.specs.Commands.{Replay, replay_of}
 use Rattle.mon_parser.specs.Texts.{Reading, ReadAs, Misspelled, Underived, Parsed}
-use Rattle.mon_parser.specs.declared.tree.Module.{Module}
+use Rattle.mon_trees.specs.declared.tree.Module.{Module}
 use Rattle.mon_compile.specs.declared.fault.CompileFault.{CompileFault}
 use Rattle.mon_compile.specs.declared.fault.CompileFault.TheVariants as compile
 use Rattle.mon_compile.specs.Faults.{compile_fault}

@@ -8,7 +8,7 @@ use Rattle.mon_compile.specs.declared.fault.CompileFault.TheVariants as compile
 use Rattle.mon_parser.specs.Texts.{ReadAs, Misspelled, Underived, Parsed}
 use Rattle.mon_parser.specs.declared.parser.SyntaxFault.{SyntaxFault}
 use Rattle.mon_parser.specs.declared.parser.SyntaxFault.TheVariants as syntax
-use Rattle.mon_parser.specs.declared.tree.Module.{Module}
+use Rattle.mon_trees.specs.declared.tree.Module.{Module}
 use Rattle.mon_main.specs.declared.source.SourceFault.{SourceFault}
 use Rattle.mon_main.specs.declared.source.SourceFault.TheVariants as fault
 

@@ -18,7 +18,7 @@ use crate::status::Status;
 use crate::store::{Store, StoreFault};
 use mon_code::Program;
 use mon_compile::{CompileFault, compile};
-use mon_parser::tree::Module;
+use mon_trees::tree::Module;
 use std::alloc::{AllocError, Global};
 
 const USAGE: &[u8] = b"usage: run FILE PLAN | replay FILE PLAN | dis FILE | gen NUMBER\n";

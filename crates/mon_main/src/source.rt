@@ -4,8 +4,8 @@ ghost use Rattle.mon_main.specs.Sources as spec;
 
 use mon_compile::CompileFault;
 use mon_lexer::{LexFault, items};
-use mon_parser::tree::Module;
 use mon_parser::{SyntaxFault, parse};
+use mon_trees::tree::Module;
 use std::alloc::{AllocError, Global};
 use thiserror::Error;
 

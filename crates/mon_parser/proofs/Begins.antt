@@ -7,8 +7,8 @@ use Rattle.mon_lexer.specs.declared.token.Kind.TheVariants as kind
 use Rattle.mon_lexer.specs.declared.token.Operator.TheVariants as operator
 use Rattle.mon_lexer.specs.declared.token.Keyword.TheVariants as word
 use Rattle.mon_parser.specs.declared.cursor.Sign.TheVariants as sign
-use Rattle.mon_parser.specs.declared.tree.Single.{Single}
-use Rattle.mon_parser.specs.declared.tree.Expression.{Expression}
+use Rattle.mon_trees.specs.declared.tree.Single.{Single}
+use Rattle.mon_trees.specs.declared.tree.Expression.{Expression}
 use Rattle.mon_parser.specs.Tokens.{single_of}
 use Rattle.mon_parser.specs.Reader.{binds, mark_at, starts, starts_kind, is_comma, is_comma_kind, next_at}
 use Rattle.mon_parser.specs.Grammar.{IsRhs, rhs_yield, rhs_yield_value, rhs_tuple, IsTuple, tuple_one, tuple_tuple, tuple_comma, IsExprs, exprs_one, exprs_more, IsExpr, expr_or, expr_if, IsOr, or_one, or_more, IsAnd, and_one, and_more, IsNot, not_not, not_compare}

@@ -5,7 +5,7 @@ use Rattle.mon_lexer.specs.declared.token.Token.{Token}
 use Rattle.mon_lexer.specs.declared.token.Kind.{Kind}
 use Rattle.mon_parser.specs.declared.refusal.Refusal.{Refusal}
 use Rattle.mon_parser.specs.declared.refusal.Refusal.TheVariants.{Memory}
-use Rattle.mon_parser.specs.declared.tree.Expression.{Expression}
+use Rattle.mon_trees.specs.declared.tree.Expression.{Expression}
 use Rattle.mon_parser.specs.Readings.{leaf_at}
 use Rattle.mon_parser.specs.Reader.{Answer, then_read, choose, pick, next_at}
 use Rattle.mon_parser.specs.Code.{Gives}

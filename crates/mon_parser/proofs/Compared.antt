@@ -6,10 +6,10 @@ use Rattle.mon_lexer.specs.declared.token.Kind.{Kind}
 use Rattle.mon_lexer.specs.declared.token.Kind.TheVariants as kind
 use Rattle.mon_lexer.specs.declared.token.Keyword.TheVariants as word
 use Rattle.mon_parser.specs.declared.cursor.Sign.TheVariants as sign
-use Rattle.mon_parser.specs.declared.tree.Comparison.{Comparison}
-use Rattle.mon_parser.specs.declared.tree.Comparison.TheVariants as comparison
-use Rattle.mon_parser.specs.declared.tree.Expression.{Expression}
-use Rattle.mon_parser.specs.declared.tree.Expression.TheViews as node
+use Rattle.mon_trees.specs.declared.tree.Comparison.{Comparison}
+use Rattle.mon_trees.specs.declared.tree.Comparison.TheVariants as comparison
+use Rattle.mon_trees.specs.declared.tree.Expression.{Expression}
+use Rattle.mon_trees.specs.declared.tree.Expression.TheViews as node
 use Rattle.mon_parser.specs.Tokens.{mark, key, cmp_op, single_of}
 use Rattle.mon_parser.specs.Reader.{Answer, Reader, then_read, choose, next_at, by_option, mark_at, made, compared, compare_from, is_from, read_sum, read_compare}
 use Rattle.mon_parser.specs.Grammar.{IsSum, IsCompare, compare_sum, compare_cmp, compare_is, compare_is_not, IsCmp, cmp_one, cmp_not_in, single_word}

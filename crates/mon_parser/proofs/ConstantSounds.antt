@@ -4,9 +4,9 @@ use Rattle.std.specs.Prelude.{Some, ⊤, neg_ℤ}
 use Rattle.mon_lexer.specs.declared.token.Token.{Token}
 use Rattle.mon_lexer.specs.declared.token.Operator.TheVariants as operator
 use Rattle.mon_parser.specs.declared.cursor.Sign.TheVariants as sign
-use Rattle.mon_parser.specs.declared.tree.Constant.{Constant}
-use Rattle.mon_parser.specs.declared.tree.Constant as const
-use Rattle.mon_parser.specs.declared.tree.Constant.TheViews as consts
+use Rattle.mon_trees.specs.declared.tree.Constant.{Constant}
+use Rattle.mon_trees.specs.declared.tree.Constant as const
+use Rattle.mon_trees.specs.declared.tree.Constant.TheViews as consts
 use Rattle.mon_parser.specs.Tokens.{mark, symbol, int, text, single_of}
 use Rattle.mon_parser.specs.Depth.{const_depth}
 use Rattle.mon_parser.specs.Reader.{Answer, Reader, then_read, choose, pick, next_at, mark_at, within, text_at, number_at, is_comma, more_items, more_texts}

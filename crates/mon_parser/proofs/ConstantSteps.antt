@@ -4,12 +4,12 @@ use Rattle.std.specs.Prelude.{Some, None, true, false, ⊤, ℤ, pos, neg_ℤ}
 use Rattle.std.proofs.lemmas.Int.{ints}
 use Rattle.mon_lexer.specs.declared.token.Token.{Token}
 use Rattle.mon_parser.specs.declared.cursor.Sign.TheVariants as sign
-use Rattle.mon_parser.specs.declared.tree.Single.{Single}
-use Rattle.mon_parser.specs.declared.tree.Constant.{Constant}
-use Rattle.mon_parser.specs.declared.tree.Constant as const
-use Rattle.mon_parser.specs.declared.tree.Constant.TheOpen.{Constant-F}
-use Rattle.mon_parser.specs.declared.tree.Constant.TheFolds.{fold-roll-Constant}
-use Rattle.mon_parser.specs.declared.tree.Constant.TheViews as consts
+use Rattle.mon_trees.specs.declared.tree.Single.{Single}
+use Rattle.mon_trees.specs.declared.tree.Constant.{Constant}
+use Rattle.mon_trees.specs.declared.tree.Constant as const
+use Rattle.mon_trees.specs.declared.tree.Constant.TheOpen.{Constant-F}
+use Rattle.mon_trees.specs.declared.tree.Constant.TheFolds.{fold-roll-Constant}
+use Rattle.mon_trees.specs.declared.tree.Constant.TheViews as consts
 use Rattle.mon_parser.specs.Tokens.{single_of}
 use Rattle.mon_parser.specs.Depth.{const_depth, const_depth_step}
 use Rattle.mon_parser.specs.Reader.{Answer, Reader, then_read, choose, pick, next_at, mark_at, text_at, number_at, within, is_comma, more_items, more_texts}

@@ -7,10 +7,10 @@ use Rattle.mon_lexer.specs.declared.token.Kind.TheVariants as kind
 use Rattle.mon_lexer.specs.declared.token.Operator.TheVariants as operator
 use Rattle.mon_lexer.specs.declared.token.Keyword.TheVariants as word
 use Rattle.mon_parser.specs.declared.cursor.Sign.TheVariants as sign
-use Rattle.mon_parser.specs.declared.tree.Single.{Single}
-use Rattle.mon_parser.specs.declared.tree.Constant.{Constant}
-use Rattle.mon_parser.specs.declared.tree.Constant as const
-use Rattle.mon_parser.specs.declared.tree.Constant.TheViews as consts
+use Rattle.mon_trees.specs.declared.tree.Single.{Single}
+use Rattle.mon_trees.specs.declared.tree.Constant.{Constant}
+use Rattle.mon_trees.specs.declared.tree.Constant as const
+use Rattle.mon_trees.specs.declared.tree.Constant.TheViews as consts
 use Rattle.mon_parser.specs.Tokens.{symbol, single_of}
 use Rattle.mon_parser.specs.Depth.{const_depth, most}
 use Rattle.mon_parser.specs.Reader.{Answer, Reader, then_read, choose, pick, next_at, mark_at, within, is_comma, more_items}

@@ -1,14 +1,14 @@
 -- The depth of each node.
 use Rattle.std.proofs.Common.{◌≡◌, ℕ, ◌+◌, max, List, [], ◌∷◌, ◌++◌, map, sym, ap, ◌∙◌, arith}
 use Rattle.std.specs.Prelude.{Some, None}
-use Rattle.mon_parser.specs.declared.tree.BinaryOperator.{BinaryOperator}
-use Rattle.mon_parser.specs.declared.tree.Comparison.{Comparison}
-use Rattle.mon_parser.specs.declared.tree.Single.{Single}
-use Rattle.mon_parser.specs.declared.tree.Method.{Method}
-use Rattle.mon_parser.specs.declared.tree.Expression.{Expression}
-use Rattle.mon_parser.specs.declared.tree.Expression.TheOpen.{Expression-F}
-use Rattle.mon_parser.specs.declared.tree.Expression.TheFolds.{fold-roll-Expression}
-use Rattle.mon_parser.specs.declared.tree.Expression.TheViews as node
+use Rattle.mon_trees.specs.declared.tree.BinaryOperator.{BinaryOperator}
+use Rattle.mon_trees.specs.declared.tree.Comparison.{Comparison}
+use Rattle.mon_trees.specs.declared.tree.Single.{Single}
+use Rattle.mon_trees.specs.declared.tree.Method.{Method}
+use Rattle.mon_trees.specs.declared.tree.Expression.{Expression}
+use Rattle.mon_trees.specs.declared.tree.Expression.TheOpen.{Expression-F}
+use Rattle.mon_trees.specs.declared.tree.Expression.TheFolds.{fold-roll-Expression}
+use Rattle.mon_trees.specs.declared.tree.Expression.TheViews as node
 use Rattle.mon_parser.specs.Depth.{expr_depth, expr_depth_step, most}
 
 pub depth_binary : (op : BinaryOperator) (a b : Expression) → expr_depth (node.Binary op a b) ≡ 1 + max (expr_depth a) (expr_depth b)

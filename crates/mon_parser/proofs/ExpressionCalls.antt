@@ -8,13 +8,13 @@ use Rattle.mon_parser.specs.declared.levels.Level.TheVariants as level
 use Rattle.mon_parser.specs.declared.levels.Op.{Op}
 use Rattle.mon_parser.specs.declared.levels.Suffix.{Suffix}
 use Rattle.mon_parser.specs.declared.levels.Suffix.TheVariants as suffix
-use Rattle.mon_parser.specs.declared.tree.Method.{Method}
-use Rattle.mon_parser.specs.declared.tree.Single.{Single}
-use Rattle.mon_parser.specs.declared.tree.Comparison.{Comparison}
-use Rattle.mon_parser.specs.declared.tree.Comparison.TheVariants as comparison
-use Rattle.mon_parser.specs.declared.tree.Expression.{Expression}
-use Rattle.mon_parser.specs.declared.tree.Expression as tree
-use Rattle.mon_parser.specs.declared.tree.Expression.TheViews as node
+use Rattle.mon_trees.specs.declared.tree.Method.{Method}
+use Rattle.mon_trees.specs.declared.tree.Single.{Single}
+use Rattle.mon_trees.specs.declared.tree.Comparison.{Comparison}
+use Rattle.mon_trees.specs.declared.tree.Comparison.TheVariants as comparison
+use Rattle.mon_trees.specs.declared.tree.Expression.{Expression}
+use Rattle.mon_trees.specs.declared.tree.Expression as tree
+use Rattle.mon_trees.specs.declared.tree.Expression.TheViews as node
 use Rattle.mon_parser.specs.Tokens.{single_of, cmp_op}
 use Rattle.mon_parser.specs.Depth.{expr_depth}
 use Rattle.mon_parser.specs.Reader.{Answer, Reader, then_read, choose, pick, next_at, mark_at, within, level_op, op_node, suffix_at, method_at, text_at, name_at, number_at, yield_line, starts, is_comma, read_expr, more_items, more_texts}

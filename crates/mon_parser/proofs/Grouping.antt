@@ -9,8 +9,8 @@ use Rattle.mon_lexer.specs.declared.token.Keyword.TheVariants as word
 use Rattle.mon_parser.specs.declared.levels.Level.TheVariants as level
 use Rattle.mon_parser.specs.declared.levels.Op.{Op}
 use Rattle.mon_parser.specs.declared.levels.Op.TheVariants as op
-use Rattle.mon_parser.specs.declared.tree.BinaryOperator.{BinaryOperator}
-use Rattle.mon_parser.specs.declared.tree.Expression.{Expression}
+use Rattle.mon_trees.specs.declared.tree.BinaryOperator.{BinaryOperator}
+use Rattle.mon_trees.specs.declared.tree.Expression.{Expression}
 use Rattle.mon_parser.specs.Tokens.{sum_op, term_op}
 use Rattle.mon_parser.specs.Depth.{expr_depth}
 use Rattle.mon_parser.specs.Reader.{Reader, binds, binary_op, level_op, op_node, read_unary, read_term, read_sum, read_not, read_and, read_or}

@@ -4,9 +4,9 @@ use Rattle.std.specs.Prelude.{Some, None, ⊤, Result}
 use Rattle.mon_lexer.specs.declared.token.Token.{Token}
 use Rattle.mon_parser.specs.declared.cursor.Sign.TheVariants as sign
 use Rattle.mon_parser.specs.declared.refusal.Refusal.{Refusal}
-use Rattle.mon_parser.specs.declared.tree.Constant.{Constant}
-use Rattle.mon_parser.specs.declared.tree.ModuleItem.{ModuleItem}
-use Rattle.mon_parser.specs.declared.tree.ModuleItem.TheVariants as item
+use Rattle.mon_trees.specs.declared.tree.Constant.{Constant}
+use Rattle.mon_trees.specs.declared.tree.ModuleItem.{ModuleItem}
+use Rattle.mon_trees.specs.declared.tree.ModuleItem.TheVariants as item
 use Rattle.mon_parser.specs.Tokens.{first_line}
 use Rattle.mon_parser.specs.Depth.{item_depth, const_depth}
 use Rattle.mon_parser.specs.Reader.{Answer, Reader, then_read, choose, next_at, mark_at, name_at, text_at, within, more_texts}

@@ -6,8 +6,8 @@ use Rattle.mon_lexer.specs.declared.token.Kind.{Kind}
 use Rattle.mon_lexer.specs.declared.token.Kind.TheVariants as kind
 use Rattle.mon_lexer.specs.declared.token.Keyword.TheVariants as word
 use Rattle.mon_parser.specs.declared.cursor.Sign.TheVariants as sign
-use Rattle.mon_parser.specs.declared.tree.Expression.{Expression}
-use Rattle.mon_parser.specs.declared.tree.Expression.TheViews as node
+use Rattle.mon_trees.specs.declared.tree.Expression.{Expression}
+use Rattle.mon_trees.specs.declared.tree.Expression.TheViews as node
 use Rattle.mon_parser.specs.Tokens.{key}
 use Rattle.mon_parser.specs.Depth.{expr_depth}
 use Rattle.mon_parser.specs.Reader.{Answer, Reader, then_read, choose, next_at, mark_at, made, binds, if_from, read_or, read_expr_in, read_expr}

@@ -3,7 +3,7 @@ use Rattle.std.proofs.Common.{◌≡◌, ℕ, ◌≤◌, List, [], ◌∷◌, �
 use Rattle.std.specs.Prelude.{Some}
 use Rattle.mon_lexer.specs.declared.token.Token.{Token}
 use Rattle.mon_lexer.specs.declared.token.Operator.TheVariants as operator
-use Rattle.mon_parser.specs.declared.tree.Expression.{Expression}
+use Rattle.mon_trees.specs.declared.tree.Expression.{Expression}
 use Rattle.mon_parser.specs.Tokens.{symbol}
 use Rattle.mon_parser.specs.Depth.{expr_depth, most}
 use Rattle.mon_parser.specs.Reader.{Answer, Reader, then_read, pick, starts, more_items, read_args}

@@ -6,8 +6,8 @@ use Rattle.mon_lexer.specs.declared.token.Token.{Token}
 use Rattle.mon_lexer.specs.declared.token.Item.{Item}
 use Rattle.mon_parser.specs.declared.parser.SyntaxFault.{SyntaxFault}
 use Rattle.mon_parser.specs.declared.parser.SyntaxFault.TheVariants as fault
-use Rattle.mon_parser.specs.declared.tree.Module.{Module}
-use Rattle.mon_parser.specs.declared.tree.ModuleItem.{ModuleItem}
+use Rattle.mon_trees.specs.declared.tree.Module.{Module}
+use Rattle.mon_trees.specs.declared.tree.ModuleItem.{ModuleItem}
 use Rattle.mon_parser.specs.Tokens.{first_line}
 use Rattle.mon_parser.specs.Derives.{Derives, HasTree, DeriveAll, FirstWithout, ParsedAs}
 use Rattle.mon_parser.proofs.Trees.{derives_once}

@@ -6,8 +6,8 @@ use Rattle.mon_lexer.specs.declared.token.Kind.{Kind}
 use Rattle.mon_lexer.specs.declared.token.Kind.TheVariants as kind
 use Rattle.mon_lexer.specs.declared.token.Operator.TheVariants as operator
 use Rattle.mon_parser.specs.declared.cursor.Sign.TheVariants as sign
-use Rattle.mon_parser.specs.declared.tree.Targets.{Targets}
-use Rattle.mon_parser.specs.declared.tree.Targets.TheVariants as targets
+use Rattle.mon_trees.specs.declared.tree.Targets.{Targets}
+use Rattle.mon_trees.specs.declared.tree.Targets.TheVariants as targets
 use Rattle.mon_parser.specs.Tokens.{mark, symbol, name}
 use Rattle.mon_parser.specs.Reader.{Answer, Reader, then_read, pick, next_at, mark_at, name_at, is_comma, is_comma_kind}
 use Rattle.mon_parser.specs.Statements.{starts_name, more_names, read_targets, read_parameters}

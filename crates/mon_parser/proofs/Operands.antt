@@ -4,13 +4,13 @@ use Rattle.std.specs.Prelude.{Option, Some, None, Result, MatchOption, ⊤, ℤ}
 use Rattle.mon_lexer.specs.declared.token.Token.{Token}
 use Rattle.mon_parser.specs.declared.cursor.Sign.TheVariants as sign
 use Rattle.mon_parser.specs.declared.refusal.Refusal.{Refusal}
-use Rattle.mon_parser.specs.declared.tree.Comparison.{Comparison}
-use Rattle.mon_parser.specs.declared.tree.Comparison.TheVariants as comparison
-use Rattle.mon_parser.specs.declared.tree.Single.{Single}
-use Rattle.mon_parser.specs.declared.tree.Method.{Method}
-use Rattle.mon_parser.specs.declared.tree.Expression.{Expression}
-use Rattle.mon_parser.specs.declared.tree.Expression as tree
-use Rattle.mon_parser.specs.declared.tree.Expression.TheViews as node
+use Rattle.mon_trees.specs.declared.tree.Comparison.{Comparison}
+use Rattle.mon_trees.specs.declared.tree.Comparison.TheVariants as comparison
+use Rattle.mon_trees.specs.declared.tree.Single.{Single}
+use Rattle.mon_trees.specs.declared.tree.Method.{Method}
+use Rattle.mon_trees.specs.declared.tree.Expression.{Expression}
+use Rattle.mon_trees.specs.declared.tree.Expression as tree
+use Rattle.mon_trees.specs.declared.tree.Expression.TheViews as node
 use Rattle.mon_parser.specs.Tokens.{single_of, cmp_op}
 use Rattle.mon_parser.specs.Depth.{expr_depth}
 use Rattle.mon_parser.specs.Reader.{next_at, mark_at, number_at, name_at, text_at, method_at, more_texts}

@@ -8,9 +8,9 @@ use Rattle.mon_lexer.specs.declared.token.Operator.TheVariants as operator
 use Rattle.mon_parser.specs.declared.cursor.Sign.TheVariants as sign
 use Rattle.mon_parser.specs.declared.levels.Suffix.{Suffix}
 use Rattle.mon_parser.specs.declared.levels.Suffix.TheVariants as suffix
-use Rattle.mon_parser.specs.declared.tree.Method.{Method}
-use Rattle.mon_parser.specs.declared.tree.Expression.{Expression}
-use Rattle.mon_parser.specs.declared.tree.Expression.TheViews as node
+use Rattle.mon_trees.specs.declared.tree.Method.{Method}
+use Rattle.mon_trees.specs.declared.tree.Expression.{Expression}
+use Rattle.mon_trees.specs.declared.tree.Expression.TheViews as node
 use Rattle.mon_parser.specs.Tokens.{mark, symbol}
 use Rattle.mon_parser.specs.Depth.{expr_depth, most}
 use Rattle.mon_parser.specs.Reader.{Answer, Reader, then_read, choose, next_at, mark_at, made, binds, method_of, method_at, suffix_at, read_args, read_atom, read_suffix, more_suffixes, read_postfix}

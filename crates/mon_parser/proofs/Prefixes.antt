@@ -6,11 +6,11 @@ use Rattle.mon_lexer.specs.declared.token.Kind.{Kind}
 use Rattle.mon_lexer.specs.declared.token.Kind.TheVariants as kind
 use Rattle.mon_lexer.specs.declared.token.Operator.TheVariants as operator
 use Rattle.mon_lexer.specs.declared.token.Keyword.TheVariants as word
-use Rattle.mon_parser.specs.declared.tree.Single.{Single}
-use Rattle.mon_parser.specs.declared.tree.Expression.{Expression}
-use Rattle.mon_parser.specs.declared.tree.Expression.TheOpen.{Expression-F}
-use Rattle.mon_parser.specs.declared.tree.Expression.TheFolds.{fold-roll-Expression, map-Expression}
-use Rattle.mon_parser.specs.declared.tree.Expression.TheViews as node
+use Rattle.mon_trees.specs.declared.tree.Single.{Single}
+use Rattle.mon_trees.specs.declared.tree.Expression.{Expression}
+use Rattle.mon_trees.specs.declared.tree.Expression.TheOpen.{Expression-F}
+use Rattle.mon_trees.specs.declared.tree.Expression.TheFolds.{fold-roll-Expression, map-Expression}
+use Rattle.mon_trees.specs.declared.tree.Expression.TheViews as node
 use Rattle.mon_parser.specs.Tokens.{single_of}
 use Rattle.mon_parser.specs.Depth.{expr_depth, expr_depth_step}
 use Rattle.mon_parser.specs.Reader.{Reader, mark_at, read_unary, read_postfix, read_not, read_compare}

@@ -6,11 +6,11 @@ use Rattle.mon_lexer.specs.declared.token.Kind.TheVariants as kind
 use Rattle.mon_lexer.specs.declared.token.Operator.TheVariants as operator
 use Rattle.mon_lexer.specs.declared.token.Keyword.TheVariants as word
 use Rattle.mon_parser.specs.declared.cursor.Sign.TheVariants as sign
-use Rattle.mon_parser.specs.declared.tree.Expression.{Expression}
-use Rattle.mon_parser.specs.declared.tree.Simple.{Simple}
-use Rattle.mon_parser.specs.declared.tree.Simple.TheVariants as simple
-use Rattle.mon_parser.specs.declared.tree.Statement.{Statement}
-use Rattle.mon_parser.specs.declared.tree.Statement as stmt
+use Rattle.mon_trees.specs.declared.tree.Expression.{Expression}
+use Rattle.mon_trees.specs.declared.tree.Simple.{Simple}
+use Rattle.mon_trees.specs.declared.tree.Simple.TheVariants as simple
+use Rattle.mon_trees.specs.declared.tree.Statement.{Statement}
+use Rattle.mon_trees.specs.declared.tree.Statement as stmt
 use Rattle.mon_parser.specs.Tokens.{mark, key, symbol, name, augmented_op, first_line}
 use Rattle.mon_parser.specs.Depth.{stmt_depth}
 use Rattle.mon_parser.specs.Reader.{Answer, Reader, then_read, name_at, read_tuple}

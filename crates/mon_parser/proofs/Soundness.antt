@@ -11,10 +11,10 @@ use Rattle.mon_lexer.specs.declared.token.Keyword.TheVariants as word
 use Rattle.mon_parser.specs.declared.cursor.Sign.TheVariants as sign
 use Rattle.mon_parser.specs.declared.levels.Suffix.{Suffix}
 use Rattle.mon_parser.specs.declared.levels.Suffix.TheVariants as suffix
-use Rattle.mon_parser.specs.declared.tree.Method.{Method}
-use Rattle.mon_parser.specs.declared.tree.Method.TheVariants.{Send, Throw, Close}
-use Rattle.mon_parser.specs.declared.tree.Expression.{Expression}
-use Rattle.mon_parser.specs.declared.tree.Expression.TheViews as node
+use Rattle.mon_trees.specs.declared.tree.Method.{Method}
+use Rattle.mon_trees.specs.declared.tree.Method.TheVariants.{Send, Throw, Close}
+use Rattle.mon_trees.specs.declared.tree.Expression.{Expression}
+use Rattle.mon_trees.specs.declared.tree.Expression.TheViews as node
 use Rattle.mon_parser.specs.Tokens.{mark, key, symbol, name, method_word}
 use Rattle.mon_parser.specs.Reader.{Reader, then_read, next_at, mark_at, made, method_of, method_at, suffix_at, read_args, read_atom, read_suffix, more_suffixes, read_postfix, if_from, read_or, read_expr_in, read_expr}
 use Rattle.mon_parser.specs.Grammar.{IsPostfix, postfix_atom, postfix_call, postfix_subscript, postfix_method, IsMethod, method_send, method_throw, method_close, IsOr, IsExpr, expr_or, expr_if}

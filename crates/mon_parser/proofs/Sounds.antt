@@ -7,9 +7,9 @@ use Rattle.mon_lexer.specs.declared.token.Kind.TheVariants as kind
 use Rattle.mon_lexer.specs.declared.token.Operator.TheVariants as operator
 use Rattle.mon_lexer.specs.declared.token.Keyword.TheVariants as word
 use Rattle.mon_parser.specs.declared.cursor.Sign.TheVariants as sign
-use Rattle.mon_parser.specs.declared.tree.Expression.{Expression}
-use Rattle.mon_parser.specs.declared.tree.Expression as tree
-use Rattle.mon_parser.specs.declared.tree.Expression.TheViews as node
+use Rattle.mon_trees.specs.declared.tree.Expression.{Expression}
+use Rattle.mon_trees.specs.declared.tree.Expression as tree
+use Rattle.mon_trees.specs.declared.tree.Expression.TheViews as node
 use Rattle.mon_parser.specs.Tokens.{mark, key, symbol, name, int, text, single_of}
 use Rattle.mon_parser.specs.Reader.{Answer, Reader, then_read, choose, pick, next_at, by_option, mark_at, made, text_at, name_at, number_at, starts, is_comma, is_comma_kind, is_yield, yield_line, more_items, more_texts, read_tuple, read_args, read_rhs, group_from, read_atom}
 use Rattle.mon_parser.specs.Grammar.{IsTexts, texts_one, texts_more, single_word, IsExpr, IsExprs, exprs_one, exprs_more, IsTuple, tuple_one, tuple_tuple, tuple_comma, IsArgs, args_none, args_some, args_comma, IsRhs, rhs_yield, rhs_yield_value, rhs_tuple, IsAtom, atom_name, atom_int, atom_texts, atom_single, atom_empty, atom_group}

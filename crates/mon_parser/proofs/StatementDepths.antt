@@ -1,19 +1,19 @@
 -- The depth of each statement, handler and constant.
 use Rattle.std.proofs.Common.{◌≡◌, ℕ, ◌+◌, max, List, [], ◌∷◌, ◌++◌, map, sym, ap, ◌∙◌, arith}
 use Rattle.std.specs.Prelude.{Option, Some, None}
-use Rattle.mon_parser.specs.declared.tree.Expression.{Expression}
-use Rattle.mon_parser.specs.declared.tree.Targets.{Targets}
-use Rattle.mon_parser.specs.declared.tree.Simple.{Simple}
-use Rattle.mon_parser.specs.declared.tree.Statement.{Statement}
-use Rattle.mon_parser.specs.declared.tree.Statement as stmt
-use Rattle.mon_parser.specs.declared.tree.Statement.TheOpen.{Statement-F}
-use Rattle.mon_parser.specs.declared.tree.Statement.TheFolds.{fold-roll-Statement, fold-roll-Handler}
-use Rattle.mon_parser.specs.declared.tree.Statement.TheViews as compound
-use Rattle.mon_parser.specs.declared.tree.Handler.{Handler}
-use Rattle.mon_parser.specs.declared.tree.Constant.{Constant}
-use Rattle.mon_parser.specs.declared.tree.Constant.TheOpen.{Constant-F}
-use Rattle.mon_parser.specs.declared.tree.Constant.TheFolds.{fold-roll-Constant}
-use Rattle.mon_parser.specs.declared.tree.Constant.TheViews as consts
+use Rattle.mon_trees.specs.declared.tree.Expression.{Expression}
+use Rattle.mon_trees.specs.declared.tree.Targets.{Targets}
+use Rattle.mon_trees.specs.declared.tree.Simple.{Simple}
+use Rattle.mon_trees.specs.declared.tree.Statement.{Statement}
+use Rattle.mon_trees.specs.declared.tree.Statement as stmt
+use Rattle.mon_trees.specs.declared.tree.Statement.TheOpen.{Statement-F}
+use Rattle.mon_trees.specs.declared.tree.Statement.TheFolds.{fold-roll-Statement, fold-roll-Handler}
+use Rattle.mon_trees.specs.declared.tree.Statement.TheViews as compound
+use Rattle.mon_trees.specs.declared.tree.Handler.{Handler}
+use Rattle.mon_trees.specs.declared.tree.Constant.{Constant}
+use Rattle.mon_trees.specs.declared.tree.Constant.TheOpen.{Constant-F}
+use Rattle.mon_trees.specs.declared.tree.Constant.TheFolds.{fold-roll-Constant}
+use Rattle.mon_trees.specs.declared.tree.Constant.TheViews as consts
 use Rattle.mon_parser.specs.Grammar.{handler}
 use Rattle.mon_parser.proofs.Prefixes.{depth_some}
 use Rattle.mon_parser.specs.Depth.{expr_depth, targets_depth, simple_depth, stmt_depth, stmt_depth_step, handler_depth, handler_depth_step, const_depth, const_depth_step, most}

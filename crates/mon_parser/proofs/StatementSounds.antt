@@ -8,10 +8,10 @@ use Rattle.mon_lexer.specs.declared.token.Keyword.{Keyword}
 use Rattle.mon_lexer.specs.declared.token.Keyword.TheVariants as word
 use Rattle.mon_parser.specs.declared.cursor.Sign.{Sign}
 use Rattle.mon_parser.specs.declared.cursor.Sign.TheVariants as sign
-use Rattle.mon_parser.specs.declared.tree.Expression.{Expression}
-use Rattle.mon_parser.specs.declared.tree.Statement.{Statement}
-use Rattle.mon_parser.specs.declared.tree.Statement.TheViews as compound
-use Rattle.mon_parser.specs.declared.tree.Handler.{Handler}
+use Rattle.mon_trees.specs.declared.tree.Expression.{Expression}
+use Rattle.mon_trees.specs.declared.tree.Statement.{Statement}
+use Rattle.mon_trees.specs.declared.tree.Statement.TheViews as compound
+use Rattle.mon_trees.specs.declared.tree.Handler.{Handler}
 use Rattle.mon_parser.specs.Tokens.{mark, key, symbol, name, first_line}
 use Rattle.mon_parser.specs.Depth.{stmt_depth}
 use Rattle.mon_parser.specs.Reader.{Reader, pick, next_at, mark_at, name_at}

@@ -3,12 +3,12 @@ use Rattle.std.proofs.Common.{◌≡◌, ℕ, zero, suc, ◌+◌, ◌-◌, ◌<�
 use Rattle.std.specs.Prelude.{Some, None, Bool, true, false, ⊤}
 use Rattle.mon_lexer.specs.declared.token.Token.{Token}
 use Rattle.mon_parser.specs.declared.cursor.Sign.TheVariants as sign
-use Rattle.mon_parser.specs.declared.tree.Targets.TheVariants as targets
-use Rattle.mon_parser.specs.declared.tree.Simple.TheVariants as simple
-use Rattle.mon_parser.specs.declared.tree.Statement.{Statement}
-use Rattle.mon_parser.specs.declared.tree.Statement as stmt
-use Rattle.mon_parser.specs.declared.tree.Statement.TheViews as compound
-use Rattle.mon_parser.specs.declared.tree.Handler.{Handler}
+use Rattle.mon_trees.specs.declared.tree.Targets.TheVariants as targets
+use Rattle.mon_trees.specs.declared.tree.Simple.TheVariants as simple
+use Rattle.mon_trees.specs.declared.tree.Statement.{Statement}
+use Rattle.mon_trees.specs.declared.tree.Statement as stmt
+use Rattle.mon_trees.specs.declared.tree.Statement.TheViews as compound
+use Rattle.mon_trees.specs.declared.tree.Handler.{Handler}
 use Rattle.mon_parser.specs.Tokens.{first_line, augmented_op}
 use Rattle.mon_parser.specs.Depth.{stmt_depth}
 use Rattle.mon_parser.specs.Grammar.{handler}

@@ -5,7 +5,7 @@ use Rattle.std.proofs.lemmas.Bool.{lt-leb}
 use Rattle.mon_lexer.specs.declared.token.Token.{Token}
 use Rattle.mon_lexer.specs.declared.token.Kind.{Kind}
 use Rattle.mon_parser.specs.declared.cursor.Sign.TheVariants as sign
-use Rattle.mon_parser.specs.declared.tree.Expression.{Expression}
+use Rattle.mon_trees.specs.declared.tree.Expression.{Expression}
 use Rattle.mon_parser.specs.Reader.{Answer, Reader, Mark, then_read, choose, pick, next_at, by_option, mark_at, if_fits, within, made, text_at, suffix_at, read_more, more_texts, more_items, more_suffixes, read_suffix, read_prefix, read_or, if_from, read_expr_in, read_expr}
 use Rattle.mon_parser.specs.Code.{with_front}
 use Rattle.mon_parser.proofs.Left.{some_pair}

@@ -7,8 +7,8 @@ use Rattle.mon_lexer.specs.declared.token.Token.{Token}
 use Rattle.mon_lexer.specs.declared.token.Item.{Item}
 use Rattle.mon_lexer.specs.declared.token.LexFault.{LexFault}
 use Rattle.mon_parser.specs.declared.parser.SyntaxFault.TheVariants as fault
-use Rattle.mon_parser.specs.declared.tree.Module.{Module}
-use Rattle.mon_parser.specs.declared.tree.ModuleItem.{ModuleItem}
+use Rattle.mon_trees.specs.declared.tree.Module.{Module}
+use Rattle.mon_trees.specs.declared.tree.ModuleItem.{ModuleItem}
 use Rattle.mon_parser.specs.Derives.{HasTree, DeriveAll, FirstWithout}
 use Rattle.mon_parser.specs.Statements.{read_item}
 use Rattle.mon_parser.specs.Texts.{Reading, ReadAs, Misspelled, Underived, Parsed}

@@ -6,9 +6,9 @@ use Rattle.mon_lexer.specs.declared.token.Kind.TheVariants as kind
 use Rattle.mon_lexer.specs.declared.token.Operator.TheVariants as operator
 use Rattle.mon_lexer.specs.declared.token.Keyword.TheVariants as word
 use Rattle.mon_parser.specs.declared.cursor.Sign.TheVariants as sign
-use Rattle.mon_parser.specs.declared.tree.Statement.{Statement}
-use Rattle.mon_parser.specs.declared.tree.ModuleItem.{ModuleItem}
-use Rattle.mon_parser.specs.declared.tree.ModuleItem.TheVariants as item
+use Rattle.mon_trees.specs.declared.tree.Statement.{Statement}
+use Rattle.mon_trees.specs.declared.tree.ModuleItem.{ModuleItem}
+use Rattle.mon_trees.specs.declared.tree.ModuleItem.TheVariants as item
 use Rattle.mon_parser.specs.Tokens.{mark, key, symbol, name, text, first_line, most_open}
 use Rattle.mon_parser.specs.Depth.{item_depth, stmt_depth, most}
 use Rattle.mon_parser.specs.Reader.{Answer, then_read, choose, next_at, mark_at, name_at, text_at, within, more_texts, read_expr}

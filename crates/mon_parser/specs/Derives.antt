@@ -6,8 +6,8 @@ use Rattle.mon_parser.specs.declared.refusal.Refusal.{Refusal}
 use Rattle.mon_parser.specs.declared.refusal.Refusal.TheVariants as refusal
 use Rattle.mon_parser.specs.declared.parser.SyntaxFault.{SyntaxFault}
 use Rattle.mon_parser.specs.declared.parser.SyntaxFault.TheVariants as fault
-use Rattle.mon_parser.specs.declared.tree.Module.{Module}
-use Rattle.mon_parser.specs.declared.tree.ModuleItem.{ModuleItem}
+use Rattle.mon_trees.specs.declared.tree.Module.{Module}
+use Rattle.mon_trees.specs.declared.tree.ModuleItem.{ModuleItem}
 use Rattle.mon_parser.specs.Tokens.{most_open, first_line}
 use Rattle.mon_parser.specs.Depth.{item_depth}
 use Rattle.mon_parser.specs.Grammar.{IsItem}

@@ -1,7 +1,7 @@
 -- The readers of constants and items by what the code's functions read. They are closed, so that a proof about a call does not look into it.
 use Rattle.std.specs.Prelude.{ℕ, List}
-use Rattle.mon_parser.specs.declared.tree.Constant.{Constant}
-use Rattle.mon_parser.specs.declared.tree.ModuleItem.{ModuleItem}
+use Rattle.mon_trees.specs.declared.tree.Constant.{Constant}
+use Rattle.mon_trees.specs.declared.tree.ModuleItem.{ModuleItem}
 use Rattle.mon_parser.specs.Reader.{Reader, more_items}
 use Rattle.mon_parser.specs.Statements.{starts_constant, read_constants, read_constant, read_def, read_item}
 use Rattle.mon_parser.specs.Code.{with_front}

@@ -4,9 +4,9 @@ use Rattle.mon_lexer.specs.declared.token.Token.{Token}
 use Rattle.mon_lexer.specs.declared.token.Item.{Item}
 use Rattle.mon_parser.specs.declared.parser.SyntaxFault.{SyntaxFault}
 use Rattle.mon_parser.specs.declared.parser.SyntaxFault.TheVariants.{Memory}
-use Rattle.mon_parser.specs.declared.tree.Expression.{Expression}
-use Rattle.mon_parser.specs.declared.tree.Module.{Module}
-use Rattle.mon_parser.specs.declared.tree.ModuleItem.{ModuleItem}
+use Rattle.mon_trees.specs.declared.tree.Expression.{Expression}
+use Rattle.mon_trees.specs.declared.tree.Module.{Module}
+use Rattle.mon_trees.specs.declared.tree.ModuleItem.{ModuleItem}
 use Rattle.mon_parser.specs.Depth.{expr_depth, item_depth}
 use Rattle.mon_parser.specs.Grammar.{IsExpr, IsItem}
 use Rattle.mon_parser.specs.Nesting.{item_nest}

@@ -1,12 +1,12 @@
 -- How many brackets of a derivation stand within each other, at most: what stands in brackets counts one more than by itself.
 use Rattle.std.specs.Prelude.{ℕ, ◌+◌, max, List}
 use Rattle.mon_lexer.specs.declared.token.Token.{Token}
-use Rattle.mon_parser.specs.declared.tree.Constant.{Constant}
-use Rattle.mon_parser.specs.declared.tree.Expression.{Expression}
-use Rattle.mon_parser.specs.declared.tree.Simple.{Simple}
-use Rattle.mon_parser.specs.declared.tree.Statement.{Statement}
-use Rattle.mon_parser.specs.declared.tree.Handler.{Handler}
-use Rattle.mon_parser.specs.declared.tree.ModuleItem.{ModuleItem}
+use Rattle.mon_trees.specs.declared.tree.Constant.{Constant}
+use Rattle.mon_trees.specs.declared.tree.Expression.{Expression}
+use Rattle.mon_trees.specs.declared.tree.Simple.{Simple}
+use Rattle.mon_trees.specs.declared.tree.Statement.{Statement}
+use Rattle.mon_trees.specs.declared.tree.Handler.{Handler}
+use Rattle.mon_trees.specs.declared.tree.ModuleItem.{ModuleItem}
 use Rattle.mon_parser.specs.Grammar.{IsConsts, consts_one, consts_tuple, consts_comma, IsConstList, const_list_one, const_list_more, IsConst, const_empty, const_group, IsRhs, rhs_yield, rhs_yield_value, rhs_tuple, IsTuple, tuple_one, tuple_tuple, tuple_comma, IsExprs, exprs_one, exprs_more, IsExpr, expr_or, expr_if, IsOr, or_one, or_more, IsAnd, and_one, and_more, IsNot, not_not, not_compare, IsCompare, compare_sum, compare_cmp, compare_is, compare_is_not, IsSum, sum_one, sum_more, IsTerm, term_one, term_more, IsUnary, unary_minus, unary_postfix, IsPostfix, postfix_atom, postfix_call, postfix_subscript, postfix_method, IsArgs, args_none, args_some, args_comma, IsAtom, atom_empty, atom_group, IsSimple, simple_return_value, simple_raise_value, simple_augmented, simple_assign, simple_rhs, IsBlock, block_simple, block_stmts, IsStmts, stmts_one, stmts_more, IsStmt, stmt_simple, stmt_if, stmt_while, stmt_for, stmt_try, stmt_try_both, stmt_try_finally, IsElse, else_none, else_block, else_elif, IsFinally, finally_block, IsHandlers, handlers_one, handlers_more, handlers_bare, IsExcept, except_plain, except_as, IsBare, bare_block, IsItem, item_def, item_const, item_texts}
 
 abbrev mutual

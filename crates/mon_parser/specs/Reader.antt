@@ -6,18 +6,18 @@ use Rattle.mon_lexer.specs.declared.token.Kind.{Kind}
 use Rattle.mon_lexer.specs.declared.token.Kind.TheVariants as kind
 use Rattle.mon_lexer.specs.declared.token.Operator.TheVariants as operator
 use Rattle.mon_lexer.specs.declared.token.Keyword.TheVariants as word
-use Rattle.mon_parser.specs.declared.tree.BinaryOperator.{BinaryOperator}
-use Rattle.mon_parser.specs.declared.tree.Expression.{Expression}
-use Rattle.mon_parser.specs.declared.tree.Expression as tree
-use Rattle.mon_parser.specs.declared.tree.Expression.TheViews as node
-use Rattle.mon_parser.specs.declared.tree.Comparison.{Comparison}
-use Rattle.mon_parser.specs.declared.tree.Comparison.TheVariants as comparison
+use Rattle.mon_trees.specs.declared.tree.BinaryOperator.{BinaryOperator}
+use Rattle.mon_trees.specs.declared.tree.Expression.{Expression}
+use Rattle.mon_trees.specs.declared.tree.Expression as tree
+use Rattle.mon_trees.specs.declared.tree.Expression.TheViews as node
+use Rattle.mon_trees.specs.declared.tree.Comparison.{Comparison}
+use Rattle.mon_trees.specs.declared.tree.Comparison.TheVariants as comparison
 use Rattle.mon_parser.specs.declared.levels.Level.{Level}
 use Rattle.mon_parser.specs.declared.levels.Level.TheVariants as level
 use Rattle.mon_parser.specs.declared.levels.Op.{Op}
 use Rattle.mon_parser.specs.declared.levels.Op.TheVariants as op
-use Rattle.mon_parser.specs.declared.tree.Method.{Method}
-use Rattle.mon_parser.specs.declared.tree.Method.TheVariants.{Send, Throw, Close}
+use Rattle.mon_trees.specs.declared.tree.Method.{Method}
+use Rattle.mon_trees.specs.declared.tree.Method.TheVariants.{Send, Throw, Close}
 use Rattle.mon_parser.specs.declared.levels.Suffix.{Suffix}
 use Rattle.mon_parser.specs.declared.levels.Suffix.TheVariants as suffix
 use Rattle.mon_parser.specs.declared.cursor.Sign.{Sign}

@@ -1,9 +1,9 @@
 -- The readers of statements by what the code's functions read, closed in the same way.
 use Rattle.std.specs.Prelude.{ℕ, List, [], ◌∷◌, ◌++◌, Some, None, Bool}
-use Rattle.mon_parser.specs.declared.tree.Simple.{Simple}
-use Rattle.mon_parser.specs.declared.tree.Simple.TheVariants as simple
-use Rattle.mon_parser.specs.declared.tree.Statement.{Statement}
-use Rattle.mon_parser.specs.declared.tree.Handler.{Handler}
+use Rattle.mon_trees.specs.declared.tree.Simple.{Simple}
+use Rattle.mon_trees.specs.declared.tree.Simple.TheVariants as simple
+use Rattle.mon_trees.specs.declared.tree.Statement.{Statement}
+use Rattle.mon_trees.specs.declared.tree.Handler.{Handler}
 use Rattle.mon_parser.specs.Grammar.{handler}
 use Rattle.mon_parser.specs.Code.{with_front}
 use Rattle.mon_parser.specs.Reader.{Reader, then_read, next_at, name_at, more_items, read_expr, read_tuple}

@@ -3,7 +3,7 @@ use Rattle.std.specs.Prelude.{◌≡◌, ℕ, List, Some, None}
 use Rattle.mon_lexer.specs.Top.{lexfault, spelled}
 use Rattle.mon_lexer.specs.declared.token.LexFault.{LexFault}
 use Rattle.mon_parser.specs.Derives.{DeriveAll, FirstWithout}
-use Rattle.mon_parser.specs.declared.tree.Module.{Module}
+use Rattle.mon_trees.specs.declared.tree.Module.{Module}
 
 pub data Reading : Type 0 where
   -- it spells no items

@@ -7,14 +7,14 @@ use Rattle.mon_lexer.specs.declared.token.Keyword.{Keyword}
 use Rattle.mon_lexer.specs.declared.token.Operator.{Operator}
 use Rattle.mon_lexer.specs.declared.token.Operator.TheVariants as operator
 use Rattle.mon_lexer.specs.declared.token.Keyword.TheVariants as word
-use Rattle.mon_parser.specs.declared.tree.BinaryOperator.{BinaryOperator}
-use Rattle.mon_parser.specs.declared.tree.BinaryOperator.TheVariants.{Add, Subtract, Multiply, FloorDivide, Remainder}
-use Rattle.mon_parser.specs.declared.tree.Comparison.{Comparison}
-use Rattle.mon_parser.specs.declared.tree.Comparison.TheVariants as comparison
-use Rattle.mon_parser.specs.declared.tree.Method.{Method}
-use Rattle.mon_parser.specs.declared.tree.Method.TheVariants as method
-use Rattle.mon_parser.specs.declared.tree.Single.{Single}
-use Rattle.mon_parser.specs.declared.tree.Single.TheVariants as single
+use Rattle.mon_trees.specs.declared.tree.BinaryOperator.{BinaryOperator}
+use Rattle.mon_trees.specs.declared.tree.BinaryOperator.TheVariants.{Add, Subtract, Multiply, FloorDivide, Remainder}
+use Rattle.mon_trees.specs.declared.tree.Comparison.{Comparison}
+use Rattle.mon_trees.specs.declared.tree.Comparison.TheVariants as comparison
+use Rattle.mon_trees.specs.declared.tree.Method.{Method}
+use Rattle.mon_trees.specs.declared.tree.Method.TheVariants as method
+use Rattle.mon_trees.specs.declared.tree.Single.{Single}
+use Rattle.mon_trees.specs.declared.tree.Single.TheVariants as single
 
 -- the tokens of a kind on a line: keywords, operators, names, numbers without a sign, and texts
 abbrev pub mark : Kind → ℕ → Token

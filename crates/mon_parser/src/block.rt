@@ -3,14 +3,14 @@
 ghost use Rattle.std.specs.Prelude.{◌≡◌, ◌+◌};
 ghost use Rattle.mon_parser.specs.Depth.{simple_depth, stmt_depth, const_depth, targets_depth};
 ghost use Rattle.mon_parser.specs.Code.{Made};
-ghost use Rattle.mon_parser.specs.declared.tree.Statement as stmt;
-ghost use Rattle.mon_parser.specs.declared.tree.Statement.TheViews as compound;
-ghost use Rattle.mon_parser.specs.declared.tree.Constant.TheViews as consts;
+ghost use Rattle.mon_trees.specs.declared.tree.Statement as stmt;
+ghost use Rattle.mon_trees.specs.declared.tree.Statement.TheViews as compound;
+ghost use Rattle.mon_trees.specs.declared.tree.Constant.TheViews as consts;
 
 use crate::grown::{Grown, MOST_NODES, deeper};
 use crate::refusal::Refusal;
-use crate::tree::{Constant, Handler, Simple, Statement, Targets};
-use mon_lexer::Text;
+use mon_trees::Text;
+use mon_trees::tree::{Constant, Handler, Simple, Statement, Targets};
 use sqlite_items::Items;
 use std::alloc::{AllocError, Global};
 use std::marker::Model;
@@ -24,8 +24,8 @@ pub struct GrownSimple {
 
 impl Model for GrownSimple {
     ghost use Rattle.std.specs.Prelude.{◌≡◌, ◌+◌};
-    ghost use Rattle.mon_parser.specs.declared.tree.Simple.{Simple as Tree};
-    ghost use Rattle.mon_parser.specs.contracts.tree.Simple as the_tree;
+    ghost use Rattle.mon_trees.specs.declared.tree.Simple.{Simple as Tree};
+    ghost use Rattle.mon_trees.specs.contracts.tree.Simple as the_tree;
     ghost use Rattle.mon_parser.specs.Depth.{simple_depth};
 
     ghost Value = { Tree };
@@ -68,8 +68,8 @@ pub struct GrownStatement {
 
 impl Model for GrownStatement {
     ghost use Rattle.std.specs.Prelude.{◌≡◌};
-    ghost use Rattle.mon_parser.specs.declared.tree.Statement.{Statement as Tree};
-    ghost use Rattle.mon_parser.specs.contracts.tree.Statement as the_tree;
+    ghost use Rattle.mon_trees.specs.declared.tree.Statement.{Statement as Tree};
+    ghost use Rattle.mon_trees.specs.contracts.tree.Statement as the_tree;
     ghost use Rattle.mon_parser.specs.Depth.{stmt_depth};
 
     ghost Value = { Tree };
@@ -102,8 +102,8 @@ pub struct Block {
 impl Model for Block {
     ghost use Rattle.std.specs.Prelude.{◌≡◌, List, map};
     ghost use Rattle.std.specs.Coded.{coded_list};
-    ghost use Rattle.mon_parser.specs.declared.tree.Statement.{Statement as Tree};
-    ghost use Rattle.mon_parser.specs.contracts.tree.Statement as the_tree;
+    ghost use Rattle.mon_trees.specs.declared.tree.Statement.{Statement as Tree};
+    ghost use Rattle.mon_trees.specs.contracts.tree.Statement as the_tree;
     ghost use Rattle.mon_parser.specs.Depth.{stmt_depth, most};
 
     ghost Value = { List Tree };
@@ -172,8 +172,8 @@ pub struct Handlers {
 impl Model for Handlers {
     ghost use Rattle.std.specs.Prelude.{◌≡◌, List, map};
     ghost use Rattle.std.specs.Coded.{coded_list};
-    ghost use Rattle.mon_parser.specs.declared.tree.Handler.{Handler as Clause};
-    ghost use Rattle.mon_parser.specs.contracts.tree.Handler as the_clause;
+    ghost use Rattle.mon_trees.specs.declared.tree.Handler.{Handler as Clause};
+    ghost use Rattle.mon_trees.specs.contracts.tree.Handler as the_clause;
     ghost use Rattle.mon_parser.specs.Depth.{handler_depth, most};
 
     ghost Value = { List Clause };
@@ -332,8 +332,8 @@ pub struct GrownConstant {
 
 impl Model for GrownConstant {
     ghost use Rattle.std.specs.Prelude.{◌≡◌};
-    ghost use Rattle.mon_parser.specs.declared.tree.Constant.{Constant as Tree};
-    ghost use Rattle.mon_parser.specs.contracts.tree.Constant as the_tree;
+    ghost use Rattle.mon_trees.specs.declared.tree.Constant.{Constant as Tree};
+    ghost use Rattle.mon_trees.specs.contracts.tree.Constant as the_tree;
     ghost use Rattle.mon_parser.specs.Depth.{const_depth};
 
     ghost Value = { Tree };
@@ -377,8 +377,8 @@ pub struct ConstantParts {
 impl Model for ConstantParts {
     ghost use Rattle.std.specs.Prelude.{◌≡◌, List, map};
     ghost use Rattle.std.specs.Coded.{coded_list};
-    ghost use Rattle.mon_parser.specs.declared.tree.Constant.{Constant as Tree};
-    ghost use Rattle.mon_parser.specs.contracts.tree.Constant as the_tree;
+    ghost use Rattle.mon_trees.specs.declared.tree.Constant.{Constant as Tree};
+    ghost use Rattle.mon_trees.specs.contracts.tree.Constant as the_tree;
     ghost use Rattle.mon_parser.specs.Depth.{const_depth, most};
 
     ghost Value = { List Tree };

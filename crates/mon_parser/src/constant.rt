@@ -9,7 +9,7 @@ use crate::block::{ConstantParts, GrownConstant};
 use crate::cursor::{Cursor, Sign};
 use crate::operand::texts;
 use crate::refusal::Refusal;
-use crate::tree::Constant;
+use mon_trees::tree::Constant;
 use std::alloc::Global;
 
 /// A constant, or a tuple of those that are written with a comma.

@@ -7,8 +7,9 @@ ghost use Rattle.mon_parser.specs.Tokens.{sum_op, term_op, cmp_op, single_of, au
 
 use crate::levels::{Level, Op, Suffix};
 use crate::refusal::Refusal;
-use crate::tree::{BinaryOperator, Comparison, Method, Single};
-use mon_lexer::{Keyword, Kind, Operator, Text, Token};
+use mon_lexer::{Keyword, Kind, Operator, Token};
+use mon_trees::Text;
+use mon_trees::tree::{BinaryOperator, Comparison, Method, Single};
 use sqlite_items::Items;
 use std::alloc::Global;
 use std::marker::Model;

@@ -15,7 +15,7 @@ use crate::operand::{
     asked, comparison_operator, end_ask, end_call, end_subscript, identity, leaf,
 };
 use crate::refusal::Refusal;
-use crate::tree::{Comparison, Expression};
+use mon_trees::tree::{Comparison, Expression};
 use std::alloc::Global;
 
 /// An expression.

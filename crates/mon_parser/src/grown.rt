@@ -2,11 +2,11 @@ ghost use Rattle.std.specs.Prelude.{◌≡◌, ◌+◌, max, Some};
 ghost use Rattle.mon_parser.specs.Depth.{expr_depth};
 ghost use Rattle.mon_parser.specs.Code.{Made};
 ghost use Rattle.mon_parser.specs.Reader.{op_node};
-ghost use Rattle.mon_parser.specs.declared.tree.Expression.TheViews as node;
+ghost use Rattle.mon_trees.specs.declared.tree.Expression.TheViews as node;
 
 use crate::levels::Op;
 use crate::refusal::Refusal;
-use crate::tree::{Comparison, Expression, Method, Single};
+use mon_trees::tree::{Comparison, Expression, Method, Single};
 use sqlite_items::{Boxed, Items};
 use std::alloc::{AllocError, Global};
 use std::marker::Model;
@@ -23,8 +23,8 @@ pub struct Grown {
 
 impl Model for Grown {
     ghost use Rattle.std.specs.Prelude.{◌≡◌};
-    ghost use Rattle.mon_parser.specs.declared.tree.Expression.{Expression as Tree};
-    ghost use Rattle.mon_parser.specs.contracts.tree.Expression as the_tree;
+    ghost use Rattle.mon_trees.specs.declared.tree.Expression.{Expression as Tree};
+    ghost use Rattle.mon_trees.specs.contracts.tree.Expression as the_tree;
     ghost use Rattle.mon_parser.specs.Depth.{expr_depth};
 
     ghost Value = { Tree };
@@ -89,8 +89,8 @@ pub struct Parts {
 impl Model for Parts {
     ghost use Rattle.std.specs.Prelude.{◌≡◌, List, map};
     ghost use Rattle.std.specs.Coded.{coded_list};
-    ghost use Rattle.mon_parser.specs.declared.tree.Expression.{Expression as Tree};
-    ghost use Rattle.mon_parser.specs.contracts.tree.Expression as the_tree;
+    ghost use Rattle.mon_trees.specs.declared.tree.Expression.{Expression as Tree};
+    ghost use Rattle.mon_trees.specs.contracts.tree.Expression as the_tree;
     ghost use Rattle.mon_parser.specs.Depth.{expr_depth, most};
 
     ghost Value = { List Tree };

@@ -11,8 +11,8 @@ use crate::grown::MOST_NODES;
 use crate::operand::texts;
 use crate::refusal::Refusal;
 use crate::statement::{body, parameters};
-use crate::tree::{Function, ModuleItem};
 use mon_lexer::{Kind, Operator, Token};
+use mon_trees::tree::{Function, ModuleItem};
 use sqlite_items::Items;
 use std::alloc::Global;
 

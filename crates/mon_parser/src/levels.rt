@@ -1,4 +1,4 @@
-use crate::tree::BinaryOperator;
+use mon_trees::tree::BinaryOperator;
 
 /// A level of operators that group to the left.
 #[derive(Clone, Copy, Debug, Drop, PartialEq, Eq)]

@@ -13,7 +13,6 @@ mod operand;
 mod parser;
 mod refusal;
 mod statement;
-pub mod tree;
 
 pub use laws::{
     every_text_is_read, expression_derives_once, item_derives_once, item_keeps_limits,

@@ -9,8 +9,8 @@ ghost use Rattle.mon_parser.specs.Readings.{leaf_at, identity_at, comparison_at,
 use crate::cursor::{Cursor, Sign};
 use crate::grown::{Grown, Parts, ask, call, is, is_not, subscript};
 use crate::refusal::Refusal;
-use crate::tree::{Comparison, Expression, Method};
-use mon_lexer::Text;
+use mon_trees::Text;
+use mon_trees::tree::{Comparison, Expression, Method};
 use sqlite_items::Items;
 use std::alloc::{AllocError, Global};
 

@@ -10,8 +10,8 @@ use crate::cursor::{Cursor, Sign};
 use crate::expression::{expression, expressions, right_side};
 use crate::grown::deeper;
 use crate::refusal::Refusal;
-use crate::tree::{Simple, Targets};
-use mon_lexer::Text;
+use mon_trees::Text;
+use mon_trees::tree::{Simple, Targets};
 use sqlite_items::Items;
 use std::alloc::Global;
 

@@ -1,8 +1,8 @@
 //! Trees as text.
 
 use crate::parse;
-use crate::tree::{Constant, Expression, Handler, ModuleItem, Simple, Statement, Targets};
-use mon_lexer::Text;
+use mon_trees::Text;
+use mon_trees::tree::{Constant, Expression, Handler, ModuleItem, Simple, Statement, Targets};
 use sqlite_items::Items;
 use std::alloc::{AllocError, Global};
 use std::fmt::Write;

@@ -1,5 +1,5 @@
 use Rattle.std.proofs.Common.{◌≡◌, ◌∙◌, ◌++◌, Bool, List, [], length, ap, sym, append_assoc}
-use Rattle.mon_parser.specs.declared.tree.Statement.{Statement}
+use Rattle.mon_trees.specs.declared.tree.Statement.{Statement}
 use Rattle.mon_compile.specs.declared.assembly.Instruction.{Instruction}
 use Rattle.mon_compile.specs.declared.surroundings.Surroundings as surroundings
 use Rattle.mon_compile.specs.declared.surroundings.Surroundings.TheOpen.{Surroundings-F}

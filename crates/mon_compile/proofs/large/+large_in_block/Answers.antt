@@ -1,8 +1,8 @@
 use Rattle.std.proofs.Common.{◌∙◌, ℕ, List, map, refl, ap, arith}
 use Rattle.std.specs.Prelude.{Option}
-use Rattle.mon_parser.specs.declared.tree.Handler.{Handler}
-use Rattle.mon_parser.specs.declared.tree.Statement.{Statement}
-use Rattle.mon_parser.specs.declared.tree.Statement.TheFolds.{fold_out-Handler}
+use Rattle.mon_trees.specs.declared.tree.Handler.{Handler}
+use Rattle.mon_trees.specs.declared.tree.Statement.{Statement}
+use Rattle.mon_trees.specs.declared.tree.Statement.TheFolds.{fold_out-Handler}
 use Rattle.mon_compile.specs.Clauses.{clause_large}
 use Rattle.mon_compile.specs.Faults as spec
 use Rattle.mon_compile.specs.Functions.{joined}

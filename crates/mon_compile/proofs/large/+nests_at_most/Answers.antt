@@ -1,7 +1,7 @@
 use Rattle.std.proofs.Common.{◌∙◌, ℕ, ◌-◌, map, ap, sym, arith}
 use Rattle.std.specs.Prelude.{nat_le}
 use Rattle.mon_values.specs.Weights.{depth, greatest}
-use Rattle.mon_parser.specs.declared.tree.Constant.{Constant}
+use Rattle.mon_trees.specs.declared.tree.Constant.{Constant}
 use Rattle.mon_compile.specs.Modules.{constant_value}
 use Rattle.mon_compile.proofs.Constants.{constant_nodes, flat, flat_none, deep_one, deep_none, deep_all, tuple_depth, empty_depth}
 use Rattle.mon_compile.proofs.Parts.{part_within}

@@ -1,7 +1,7 @@
 use Rattle.std.proofs.Common.{◌∙◌, ℕ, List, map, ap, sym, arith}
 use Rattle.std.specs.Prelude.{sum}
 use Rattle.mon_values.specs.Weights.{weight, left_of}
-use Rattle.mon_parser.specs.declared.tree.Constant.{Constant}
+use Rattle.mon_trees.specs.declared.tree.Constant.{Constant}
 use Rattle.mon_compile.specs.Modules.{constant_value}
 use Rattle.mon_compile.proofs.Constants.{constant_nodes, light, spent, spent_one, spent_none, text_weight, tuple_weight}
 use Rattle.mon_compile.proofs.Parts.{part_within}

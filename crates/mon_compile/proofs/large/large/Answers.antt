@@ -1,5 +1,5 @@
 use Rattle.std.proofs.Common.{◌∷◌, []}
-use Rattle.mon_parser.specs.declared.tree.ModuleItem.{ModuleItem}
+use Rattle.mon_trees.specs.declared.tree.ModuleItem.{ModuleItem}
 use Rattle.mon_compile.specs.Faults as spec
 use Rattle.mon_compile.proofs.Least.{earlier_next, of_items}
 use Rattle.mon_compile.proofs.large.large.Goals as goal

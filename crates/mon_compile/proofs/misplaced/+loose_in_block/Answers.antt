@@ -1,6 +1,6 @@
 use Rattle.std.proofs.Common.{◌∙◌, ℕ, List, Bool, map, refl, ap, arith}
-use Rattle.mon_parser.specs.declared.tree.Handler.{Handler}
-use Rattle.mon_parser.specs.declared.tree.Statement.{Statement}
+use Rattle.mon_trees.specs.declared.tree.Handler.{Handler}
+use Rattle.mon_trees.specs.declared.tree.Statement.{Statement}
 use Rattle.mon_compile.specs.Clauses.{clause_loose}
 use Rattle.mon_compile.specs.Faults as spec
 use Rattle.mon_compile.specs.Nodes.{statement_nodes, handler_nodes}

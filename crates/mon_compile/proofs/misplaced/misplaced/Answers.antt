@@ -1,5 +1,5 @@
 use Rattle.std.proofs.Common.{◌∷◌, [], List, map}
-use Rattle.mon_parser.specs.declared.tree.ModuleItem.{ModuleItem}
+use Rattle.mon_trees.specs.declared.tree.ModuleItem.{ModuleItem}
 use Rattle.mon_compile.specs.Faults as spec
 use Rattle.mon_compile.specs.Functions.{joined}
 use Rattle.mon_compile.specs.Modules.{functions_of}

@@ -1,9 +1,9 @@
 use Rattle.std.proofs.Common.{◌∙◌, [], ◌∷◌, ℕ, List, map, refl, ap, sym, arith}
 use Rattle.std.specs.Prelude.{Option, Some}
-use Rattle.mon_parser.specs.declared.tree.Expression.{Expression}
-use Rattle.mon_parser.specs.declared.tree.Expression.TheOpen.{Expression-F}
-use Rattle.mon_parser.specs.declared.tree.Expression.TheFolds.{fold-roll-Expression}
-use Rattle.mon_parser.specs.declared.tree.Expression.TheViews as views
+use Rattle.mon_trees.specs.declared.tree.Expression.{Expression}
+use Rattle.mon_trees.specs.declared.tree.Expression.TheOpen.{Expression-F}
+use Rattle.mon_trees.specs.declared.tree.Expression.TheFolds.{fold-roll-Expression}
+use Rattle.mon_trees.specs.declared.tree.Expression.TheViews as views
 use Rattle.mon_compile.specs.Faults.{least}
 use Rattle.mon_compile.specs.Functions.{joined, yields_step, yields_in}
 use Rattle.mon_compile.proofs.Least.{earlier_next, least_both, least_three}

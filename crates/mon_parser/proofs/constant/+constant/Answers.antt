@@ -1,8 +1,8 @@
 use Rattle.std.proofs.Common.{◌≡◌, ◌++◌, ◌∷◌, [], sym, ap, ◌∙◌, rules, arith, FitsSigned, w64, false, true}
 use Rattle.std.proofs.lemmas.Int.{to_z-of_z}
 use Rattle.mon_parser.specs.Reader.{is_comma}
-use Rattle.mon_parser.specs.declared.tree.Constant as const
-use Rattle.mon_parser.specs.declared.tree.Constant.TheViews as consts
+use Rattle.mon_trees.specs.declared.tree.Constant as const
+use Rattle.mon_trees.specs.declared.tree.Constant.TheViews as consts
 use Rattle.mon_parser.specs.Depth.{const_depth}
 use Rattle.mon_parser.specs.ItemReadings.{further_from}
 use Rattle.mon_parser.proofs.Giving.{refuses, runs_out, gives_made, goes_on, stops_there}

@@ -1,5 +1,5 @@
 use Rattle.std.proofs.Common.{◌≡◌, ◌++◌, ◌∷◌, [], Some, sym, ap, ◌∙◌, arith, false, true}
-use Rattle.mon_parser.specs.declared.tree.Expression.TheViews as node
+use Rattle.mon_trees.specs.declared.tree.Expression.TheViews as node
 use Rattle.mon_parser.specs.Depth.{expr_depth}
 use Rattle.mon_parser.specs.Reader.{starts, is_comma}
 use Rattle.mon_parser.specs.Readings.{at_comparison, at_postfix, at_suffix, below_level}

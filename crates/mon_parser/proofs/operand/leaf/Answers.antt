@@ -1,6 +1,6 @@
 use Rattle.std.proofs.Common.{ap, ◌∙◌, rules, FitsSigned, w64}
 use Rattle.std.proofs.lemmas.Int.{to_z-of_z}
-use Rattle.mon_parser.specs.declared.tree.Expression as tree
+use Rattle.mon_trees.specs.declared.tree.Expression as tree
 use Rattle.mon_parser.proofs.Operands.{leaf_single, leaf_number, leaf_name, leaf_none, leaf_text}
 use Rattle.mon_parser.proofs.operand.leaf.Goals as goal
 

@@ -1,5 +1,5 @@
 use Rattle.std.proofs.Common.{◌-◌, ◌+◌, [], Some, sym, ap, ◌∙◌, arith}
-use Rattle.mon_parser.specs.declared.tree.Statement.TheViews as compound
+use Rattle.mon_trees.specs.declared.tree.Statement.TheViews as compound
 use Rattle.mon_parser.specs.Depth.{stmt_depth}
 use Rattle.mon_parser.specs.Reader.{then_read, within}
 use Rattle.mon_parser.specs.StatementReadings.{at_line, at_branch, at_while, at_for, at_try, at_elif, handlers_from, at_bare_handler, at_last, block_line, statements_from}

@@ -1,7 +1,7 @@
 use Rattle.std.proofs.Common.{Some, sym, ap, ◌∙◌}
 use Rattle.mon_parser.proofs.Giving.{refuses}
 use Rattle.mon_parser.proofs.Calls.{found, missed, taken, passed, after, gives_by}
-use Rattle.mon_parser.specs.declared.tree.Simple.TheVariants as simple
+use Rattle.mon_trees.specs.declared.tree.Simple.TheVariants as simple
 use Rattle.mon_parser.specs.StatementReadings.{at_augmented, at_assignment}
 use Rattle.mon_parser.proofs.StatementSteps.{assignment_or_value_is}
 use Rattle.mon_parser.proofs.statement.assignment_or_value.Goals as goal

@@ -1,7 +1,7 @@
 use Rattle.std.proofs.Common.{◌≡◌, Some, sym, ap, ◌∙◌, false, true}
 use Rattle.mon_parser.proofs.Giving.{refuses}
 use Rattle.mon_parser.proofs.Calls.{found, missed}
-use Rattle.mon_parser.specs.declared.tree.Simple.TheVariants as simple
+use Rattle.mon_trees.specs.declared.tree.Simple.TheVariants as simple
 use Rattle.mon_parser.specs.Reader.{starts}
 use Rattle.mon_parser.proofs.StatementSteps.{returned_none, returned_is}
 use Rattle.mon_parser.proofs.statement.returned.Goals as goal

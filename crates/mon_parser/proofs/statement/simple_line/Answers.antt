@@ -1,7 +1,7 @@
 use Rattle.std.proofs.Common.{sym, ap, ◌∙◌, arith}
 use Rattle.mon_parser.proofs.Giving.{refuses, gives_made}
 use Rattle.mon_parser.proofs.Calls.{found, missed}
-use Rattle.mon_parser.specs.declared.tree.Statement as stmt
+use Rattle.mon_trees.specs.declared.tree.Statement as stmt
 use Rattle.mon_parser.specs.Depth.{stmt_depth}
 use Rattle.mon_parser.specs.Reader.{within}
 use Rattle.mon_parser.proofs.StatementSteps.{line_none, line_is}

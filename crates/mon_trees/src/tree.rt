@@ -1,6 +1,6 @@
 //! The trees of a program's text.
 
-use mon_lexer::Text;
+use crate::Text;
 use sqlite_items::{Boxed, Items};
 
 /// The trees of a text's items, in order.

@@ -7,11 +7,11 @@ mod places;
 mod show;
 mod statements;
 
-use super::compile;
 use mon_code::Program;
+use mon_compile::compile;
 use mon_lexer::items;
 use mon_parser::parse;
-use mon_parser::tree::Module;
+use mon_trees::tree::Module;
 use std::alloc::Global;
 use std::test::Fail;
 
