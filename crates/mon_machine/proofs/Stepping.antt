@@ -8,7 +8,7 @@ use Rattle.mon_events.specs.declared.op.Op.{Op}
 use Rattle.mon_code.specs.declared.program.Code.{Code}
 use Rattle.mon_code.specs.declared.program.Handler.{Handler}
 use Rattle.mon_code.specs.declared.program.Location.{Location}
-use Rattle.mon_code.specs.Programs.{Parts, op_at, location_at}
+use Rattle.mon_code.specs.Programs.{Parts, op_at, location_at, handler_at}
 use Rattle.mon_code.specs.Checked.{IsChecked, HasOp, is_target}
 use Rattle.mon_frames.specs.declared.frame.Frame.{Frame}
 use Rattle.mon_frames.specs.declared.call.Call.{Call}
