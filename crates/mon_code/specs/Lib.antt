@@ -2,4 +2,5 @@ pub mod Programs
 pub mod Effects
 pub mod Depths
 pub mod Checked
+pub mod Waiting
 pub mod Operators

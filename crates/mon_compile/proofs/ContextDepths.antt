@@ -11,6 +11,7 @@ use Rattle.mon_compile.specs.declared.assembly.Label.TheVariants.{At, EndOf, Han
 use Rattle.mon_compile.specs.Contexts.{FromAt, Entry, While, For, Try, Except, ExceptAs, Finally, Raised, Returning, Context, Spot, put, none, above, beside, values, exceptions, handler_of, at_line, no_line, in_loop, drop_under, left_by_return, left_by_break}
 use Rattle.mon_compile.specs.Statements.{Scheme, leave_all, leave_loop, next_turn, break_code, continue_code}
 use Rattle.mon_compile.specs.Moved.{moved, moved_entry, moved_context, Fixes}
+pub use Rattle.mon_compile.specs.InnerContexts.{Closed}
 use Rattle.mon_compile.proofs.Fit.{Lands, Catches, Stands, Good, FitsAs, records_as, behind, before, join, catches_more, fits, fits_plain, fits_jump, off}
 use Rattle.mon_compile.proofs.StatementLabels.{Carrying}
 
@@ -28,10 +29,6 @@ Fine t (ExceptAs n h ∷ c) = Lands t h (1 + values c) (exceptions c) × Fine t 
 Fine t (Finally r b h ∷ c) = Lands t h (1 + values c) (exceptions c) × Kept t (1 + values c) (exceptions c) r × Kept t (values c) (exceptions c) b × Fine t c
 Fine t (Raised ∷ c) = Fine t c
 Fine t (Returning ∷ c) = Fine t c
-
--- a context with indexes alone
-abbrev pub Closed : Context → Type 0
-Closed c = (g : Label → Label) → Fixes g → moved_context g c ≡ c
 
 pub fine_outer : (t : Table) (e : Entry) (c : Context) → Fine t (e ∷ c) → Fine t c
 fine_outer t (While x y) c f = f.2

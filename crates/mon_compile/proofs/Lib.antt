@@ -14,6 +14,9 @@ pub mod StatementArguments
 pub mod Arguments
 pub mod Located
 pub mod Programs
+pub mod Contents
+pub mod InnerContexts
+pub mod InLoops
 pub mod Settled
 pub mod Nodes
 pub mod ExpressionHoles

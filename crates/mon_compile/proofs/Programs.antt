@@ -128,7 +128,7 @@ pub empty_left : (a b : List ℕ) → a ++ b ≡ [] → a ≡ []
 empty_left [] b h = refl
 empty_left (x ∷ a) b h = cc
 
-empty_right : (a b : List ℕ) → a ++ b ≡ [] → b ≡ []
+pub empty_right : (a b : List ℕ) → a ++ b ≡ [] → b ≡ []
 empty_right [] b h = h
 empty_right (x ∷ a) b h = cc
 
@@ -175,6 +175,15 @@ compiled_checked m h =
       constants = all_named m.items;
       codes = codes_checked b [] 0 fs refl refl (all_few fs placed);
     }
+
+-- nothing that is misplaced
+pub no_misplaced : (m : Module) → compile_fault m ≡ None → joined (map misplaced_in (functions_of m.items)) ≡ []
+no_misplaced m h =
+    let fs = functions_of m.items in
+    let twice = duplicate [] m.items in
+    let places = least (joined (map misplaced_in fs)) in
+    let others = first_fault TooLarge (least (large_lines_in m.items)) (first_fault NotBuilt (least (joined (map unbuilt_in fs))) (too_many m)) in
+    least_none (joined (map misplaced_in fs)) (none_left Misplaced places others (none_right DuplicateName twice (first_fault Misplaced places others) h))
 
 -- nothing that is not built
 pub no_unbuilt : (m : Module) → compile_fault m ≡ None → joined (map unbuilt_in (functions_of m.items)) ≡ []

@@ -351,7 +351,7 @@ clauses_keep t (e ∷ cs) m y c f k l s h at p w =
     record { fits = join t at code more g1.fits g2.fits; start = g1.start }) w
 
 -- no length of a clause depends on where the statement ends
-clauses_length : (cs : List ClauseScheme) → ((g : Label → Label) → AllClauses g cs) → (c : Context) → Closed c → (n at : ℕ) → length (clauses_code cs (At 0) c at) ≡ length (clauses_code cs (At n) c at)
+pub clauses_length : (cs : List ClauseScheme) → ((g : Label → Label) → AllClauses g cs) → (c : Context) → Closed c → (n at : ℕ) → length (clauses_code cs (At 0) c at) ≡ length (clauses_code cs (At n) c at)
 clauses_length cs carries c closed n at =
     let open_length : (k : ℕ) → length (clauses_code cs (At k) c at) ≡ length (clauses_code cs (EndOf 0) c at)
     = λ k.
@@ -396,7 +396,7 @@ with_label l (Finally r b h) = Finally r b l
 with_label l e = e
 
 -- the entry of a `finally` in a closed context
-closed_entry : (f : Scheme) → ((g : Label → Label) → Carrying g f) → (c : Context) → Closed c → (g : Label → Label) → Fixes g → (l : Label) → moved_entry g (Finally (f (Returning ∷ c)) (f c) l) ≡ Finally (f (Returning ∷ c)) (f c) (g l)
+pub closed_entry : (f : Scheme) → ((g : Label → Label) → Carrying g f) → (c : Context) → Closed c → (g : Label → Label) → Fixes g → (l : Label) → moved_entry g (Finally (f (Returning ∷ c)) (f c) l) ≡ Finally (f (Returning ∷ c)) (f c) (g l)
 closed_entry f carries c k g fix l =
     let moved_on : Finally (f (Returning ∷ moved_context g c)) (f (moved_context g c)) (At 0) ≡ moved_entry g (Finally (f (Returning ∷ c)) (f c) (At 0)) = same_entry g f (carries g) c fix (At 0) (fix 0) in
     let still : Finally (f (Returning ∷ c)) (f c) (At 0) ≡ moved_entry g (Finally (f (Returning ∷ c)) (f c) (At 0)) = subst (λ (x : Context). Finally (f (Returning ∷ x)) (f x) (At 0) ≡ moved_entry g (Finally (f (Returning ∷ c)) (f c) (At 0))) (k g fix) moved_on in

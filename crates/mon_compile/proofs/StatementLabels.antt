@@ -11,11 +11,9 @@ use Rattle.mon_compile.specs.Contexts.{FromAt, Entry, While, For, Try, Except, E
 use Rattle.mon_compile.specs.Expressions.{Coder, Locals, store_code, store_names, number_of_local}
 use Rattle.mon_compile.specs.Statements.{Scheme, ClauseScheme, block, leave_all, return_code, ending_code, assign_code, augmented_code, single_code, if_code, if_else_code, branch_code, while_code, for_code, in_clause, except_body, except_code, except_as_body, except_as_code, bare_code, clauses_code, handlers_code, finally_code, guarded, try_code}
 use Rattle.mon_compile.specs.Moved.{moved, moved_spot, moved_entry, moved_context, Fixes}
+pub use Rattle.mon_compile.specs.InnerContexts.{Carrying}
 use Rattle.mon_compile.proofs.ExpressionLabels.{Moving}
 use Rattle.mon_compile.proofs.ContextLabels.{values_moved, exceptions_moved, handler_moved, leave_all_moved, chosen}
-
-abbrev pub Carrying : (Label → Label) → Scheme → Type 0
-Carrying g a = (context : Context) → Fixes g → (at : ℕ) → a (moved_context g context) at ≡ map (moved g) (a context at)
 
 abbrev pub AllCarrying : (Label → Label) → List Scheme → Type 0
 AllCarrying g [] = Unit {0}

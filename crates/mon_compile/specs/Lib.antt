@@ -8,6 +8,9 @@ pub mod SchemeLaws
 pub mod Modules
 pub mod Faults
 pub mod Given
+pub mod Content
+pub mod InnerContexts
+pub mod InLoops
 pub mod Open
 pub mod Nodes
 pub mod Bindings

@@ -1,5 +1,8 @@
 //! Laws of the compile scheme, for every tree.
 
+ghost use Rattle.mon_compile.specs.Content.{ContentLaw};
+ghost use Rattle.mon_compile.specs.InLoops.{BreaksStandInLoops, TellsLoose};
+ghost use Rattle.mon_compile.specs.InnerContexts.{AllPartsHaveLabels, ClausesSameLength, ContextsAreClosed, SameLength};
 ghost use Rattle.mon_compile.specs.SchemeLaws.{FitsDepths, HasLabelsOfContext, HasNoGenerators, ProgramsAreChecked};
 
 /// The code of a block has the labels of its context and no others, and its length depends on none of them.
@@ -21,4 +24,32 @@ pub fn compiled_programs_are_checked()
 /// The program of a module without a fault has no opcode of generators, since a `yield` is not built yet.
 pub fn compiled_programs_have_no_generators()
     ensures { HasNoGenerators }
+{}
+
+/// At each index of each code, and past its end, the program of a module without a fault has the opcode, the argument by
+/// content, the handler and the line of the function's code.
+pub fn compiled_programs_have_content()
+    ensures { ContentLaw }
+{}
+
+/// Each part of a statement has the labels of its context and no others.
+pub fn parts_have_labels_of_context()
+    ensures { AllPartsHaveLabels }
+{}
+
+/// A part is as long with one index in the entry round it as with another.
+pub fn lengths_depend_on_no_index()
+    ensures parts { SameLength }
+    ensures clauses { ClausesSameLength }
+{}
+
+/// Each context in which a part of a function stands has indexes alone.
+pub fn contexts_have_indexes_alone()
+    ensures { ContextsAreClosed }
+{}
+
+/// In a module without a fault each `break` and `continue` stands in a loop.
+pub fn breaks_stand_in_loops()
+    ensures module { BreaksStandInLoops }
+    ensures block { TellsLoose }
 {}

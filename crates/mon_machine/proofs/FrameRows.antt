@@ -136,11 +136,11 @@ g_is_code = record {
   constants = tt;
   start = refl;
   each = (
-    record { fits = record { has = omega arith; holds = omega arith; next = λ _. refl; jumps = tt; caught = tt }; argument = omega arith; stands = tt; safe = refl; marked = refl },
+    record { fits = record { has = omega arith; holds = omega arith; next = λ _. refl; jumps = tt; caught = tt }; argument = omega arith; stands = tt; behind = λ w. cc; safe = refl; marked = refl },
     (
-      record { fits = record { has = omega arith; holds = omega arith; next = λ _. refl; jumps = tt; caught = tt }; argument = omega arith; stands = tt; safe = refl; marked = refl },
+      record { fits = record { has = omega arith; holds = omega arith; next = λ _. refl; jumps = tt; caught = tt }; argument = omega arith; stands = tt; behind = λ w. cc; safe = refl; marked = refl },
       (
-        record { fits = record { has = omega arith; holds = omega arith; next = λ h. cc; jumps = tt; caught = tt }; argument = tt; stands = tt; safe = refl; marked = refl },
+        record { fits = record { has = omega arith; holds = omega arith; next = λ h. cc; jumps = tt; caught = tt }; argument = tt; stands = tt; behind = λ w. cc; safe = refl; marked = refl },
         tt,
       ),
     ),
@@ -154,15 +154,15 @@ h_is_code = record {
   constants = (true_constant, tt);
   start = refl;
   each = (
-    record { fits = record { has = omega arith; holds = omega arith; next = λ _. refl; jumps = tt; caught = tt }; argument = omega arith; stands = tt; safe = refl; marked = refl },
+    record { fits = record { has = omega arith; holds = omega arith; next = λ _. refl; jumps = tt; caught = tt }; argument = omega arith; stands = tt; behind = λ w. cc; safe = refl; marked = refl },
     (
-      record { fits = record { has = omega arith; holds = omega arith; next = λ _. refl; jumps = tt; caught = tt }; argument = omega arith; stands = tt; safe = refl; marked = refl },
+      record { fits = record { has = omega arith; holds = omega arith; next = λ _. refl; jumps = tt; caught = tt }; argument = omega arith; stands = tt; behind = λ w. cc; safe = refl; marked = refl },
       (
-        record { fits = record { has = omega arith; holds = omega arith; next = λ _. refl; jumps = tt; caught = tt }; argument = omega arith; stands = tt; safe = refl; marked = refl },
+        record { fits = record { has = omega arith; holds = omega arith; next = λ _. refl; jumps = tt; caught = tt }; argument = omega arith; stands = tt; behind = λ w. cc; safe = refl; marked = refl },
         (
-          record { fits = record { has = omega arith; holds = omega arith; next = λ _. refl; jumps = tt; caught = tt }; argument = tt; stands = tt; safe = refl; marked = refl },
+          record { fits = record { has = omega arith; holds = omega arith; next = λ _. refl; jumps = tt; caught = tt }; argument = tt; stands = tt; behind = λ w. cc; safe = refl; marked = refl },
           (
-            record { fits = record { has = omega arith; holds = omega arith; next = λ h. cc; jumps = tt; caught = tt }; argument = tt; stands = tt; safe = refl; marked = refl },
+            record { fits = record { has = omega arith; holds = omega arith; next = λ h. cc; jumps = tt; caught = tt }; argument = tt; stands = tt; behind = λ w. cc; safe = refl; marked = refl },
             tt,
           ),
         ),
@@ -178,21 +178,21 @@ t_is_code = record {
   constants = (true_constant, tt);
   start = refl;
   each = (
-    record { fits = record { has = omega arith; holds = omega arith; next = λ _. refl; jumps = tt; caught = tt }; argument = omega arith; stands = tt; safe = refl; marked = refl },
+    record { fits = record { has = omega arith; holds = omega arith; next = λ _. refl; jumps = tt; caught = tt }; argument = omega arith; stands = tt; behind = λ w. cc; safe = refl; marked = refl },
     (
-      record { fits = record { has = omega arith; holds = omega arith; next = λ _. refl; jumps = tt; caught = ((omega arith, refl), omega arith, omega arith) }; argument = omega arith; stands = tt; safe = refl; marked = refl },
+      record { fits = record { has = omega arith; holds = omega arith; next = λ _. refl; jumps = tt; caught = ((omega arith, refl), omega arith, omega arith) }; argument = omega arith; stands = tt; behind = λ w. cc; safe = refl; marked = refl },
       (
-        record { fits = record { has = omega arith; holds = omega arith; next = λ h. cc; jumps = tt; caught = ((omega arith, refl), omega arith, omega arith) }; argument = omega arith; stands = tt; safe = refl; marked = refl },
+        record { fits = record { has = omega arith; holds = omega arith; next = λ h. cc; jumps = tt; caught = ((omega arith, refl), omega arith, omega arith) }; argument = omega arith; stands = tt; behind = λ w. cc; safe = refl; marked = refl },
         (
-          record { fits = record { has = omega arith; holds = omega arith; next = λ _. refl; jumps = tt; caught = tt }; argument = tt; stands = tt; safe = refl; marked = refl },
+          record { fits = record { has = omega arith; holds = omega arith; next = λ _. refl; jumps = tt; caught = tt }; argument = tt; stands = tt; behind = λ w. cc; safe = refl; marked = refl },
           (
-            record { fits = record { has = omega arith; holds = omega arith; next = λ _. refl; jumps = tt; caught = tt }; argument = tt; stands = tt; safe = refl; marked = refl },
+            record { fits = record { has = omega arith; holds = omega arith; next = λ _. refl; jumps = tt; caught = tt }; argument = tt; stands = tt; behind = λ w. cc; safe = refl; marked = refl },
             (
-              record { fits = record { has = omega arith; holds = omega arith; next = λ _. refl; jumps = tt; caught = tt }; argument = tt; stands = tt; safe = refl; marked = refl },
+              record { fits = record { has = omega arith; holds = omega arith; next = λ _. refl; jumps = tt; caught = tt }; argument = tt; stands = tt; behind = λ w. cc; safe = refl; marked = refl },
               (
-                record { fits = record { has = omega arith; holds = omega arith; next = λ _. refl; jumps = tt; caught = tt }; argument = omega arith; stands = tt; safe = refl; marked = refl },
+                record { fits = record { has = omega arith; holds = omega arith; next = λ _. refl; jumps = tt; caught = tt }; argument = omega arith; stands = tt; behind = λ w. cc; safe = refl; marked = refl },
                 (
-                  record { fits = record { has = omega arith; holds = omega arith; next = λ h. cc; jumps = tt; caught = tt }; argument = tt; stands = tt; safe = refl; marked = refl },
+                  record { fits = record { has = omega arith; holds = omega arith; next = λ h. cc; jumps = tt; caught = tt }; argument = tt; stands = tt; behind = λ w. cc; safe = refl; marked = refl },
                   tt,
                 ),
               ),
@@ -211,25 +211,25 @@ w_is_code = record {
   constants = (tuple_constant, (true_constant, tt));
   start = refl;
   each = (
-    record { fits = record { has = omega arith; holds = omega arith; next = λ _. refl; jumps = tt; caught = tt }; argument = omega arith; stands = tt; safe = refl; marked = refl },
+    record { fits = record { has = omega arith; holds = omega arith; next = λ _. refl; jumps = tt; caught = tt }; argument = omega arith; stands = tt; behind = λ w. cc; safe = refl; marked = refl },
     (
-      record { fits = record { has = omega arith; holds = omega arith; next = λ _. refl; jumps = tt; caught = tt }; argument = omega arith; stands = tt; safe = refl; marked = refl },
+      record { fits = record { has = omega arith; holds = omega arith; next = λ _. refl; jumps = tt; caught = tt }; argument = omega arith; stands = tt; behind = λ w. cc; safe = refl; marked = refl },
       (
-        record { fits = record { has = omega arith; holds = omega arith; next = λ _. refl; jumps = tt; caught = tt }; argument = tt; stands = tt; safe = refl; marked = refl },
+        record { fits = record { has = omega arith; holds = omega arith; next = λ _. refl; jumps = tt; caught = tt }; argument = tt; stands = tt; behind = λ w. cc; safe = refl; marked = refl },
         (
-          record { fits = record { has = omega arith; holds = omega arith; next = λ _. refl; jumps = tt; caught = tt }; argument = tt; stands = tt; safe = refl; marked = refl },
+          record { fits = record { has = omega arith; holds = omega arith; next = λ _. refl; jumps = tt; caught = tt }; argument = tt; stands = tt; behind = λ w. cc; safe = refl; marked = refl },
           (
-            record { fits = record { has = omega arith; holds = omega arith; next = λ _. refl; jumps = (omega arith, refl); caught = tt }; argument = tt; stands = tt; safe = refl; marked = refl },
+            record { fits = record { has = omega arith; holds = omega arith; next = λ _. refl; jumps = (omega arith, refl); caught = tt }; argument = tt; stands = tt; behind = λ w. cc; safe = refl; marked = refl },
             (
-              record { fits = record { has = omega arith; holds = omega arith; next = λ _. refl; jumps = tt; caught = tt }; argument = omega arith; stands = tt; safe = refl; marked = refl },
+              record { fits = record { has = omega arith; holds = omega arith; next = λ _. refl; jumps = tt; caught = tt }; argument = omega arith; stands = tt; behind = λ w. cc; safe = refl; marked = refl },
               (
-                record { fits = record { has = omega arith; holds = omega arith; next = λ h. cc; jumps = (omega arith, refl); caught = tt }; argument = tt; stands = tt; safe = refl; marked = refl },
+                record { fits = record { has = omega arith; holds = omega arith; next = λ h. cc; jumps = (omega arith, refl); caught = tt }; argument = tt; stands = tt; behind = λ w. cc; safe = refl; marked = refl },
                 (
-                  record { fits = record { has = omega arith; holds = omega arith; next = λ _. refl; jumps = tt; caught = tt }; argument = tt; stands = tt; safe = refl; marked = refl },
+                  record { fits = record { has = omega arith; holds = omega arith; next = λ _. refl; jumps = tt; caught = tt }; argument = tt; stands = tt; behind = λ w. cc; safe = refl; marked = refl },
                   (
-                    record { fits = record { has = omega arith; holds = omega arith; next = λ _. refl; jumps = tt; caught = tt }; argument = omega arith; stands = tt; safe = refl; marked = refl },
+                    record { fits = record { has = omega arith; holds = omega arith; next = λ _. refl; jumps = tt; caught = tt }; argument = omega arith; stands = tt; behind = λ w. cc; safe = refl; marked = refl },
                     (
-                      record { fits = record { has = omega arith; holds = omega arith; next = λ h. cc; jumps = tt; caught = tt }; argument = tt; stands = tt; safe = refl; marked = refl },
+                      record { fits = record { has = omega arith; holds = omega arith; next = λ h. cc; jumps = tt; caught = tt }; argument = tt; stands = tt; behind = λ w. cc; safe = refl; marked = refl },
                       tt,
                     ),
                   ),

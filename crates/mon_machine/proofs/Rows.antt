@@ -68,6 +68,7 @@ f_is_code = record {
       fits = record { has = omega arith; holds = omega arith; next = λ _. refl; jumps = tt; caught = tt };
       argument = omega arith;
       stands = tt;
+      behind = λ w. cc;
       safe = refl;
       marked = refl;
     },
@@ -76,6 +77,7 @@ f_is_code = record {
         fits = record { has = omega arith; holds = omega arith; next = λ _. refl; jumps = tt; caught = tt };
         argument = omega arith;
         stands = tt;
+        behind = λ w. cc;
         safe = refl;
         marked = refl;
       },
@@ -84,6 +86,7 @@ f_is_code = record {
           fits = record { has = omega arith; holds = omega arith; next = λ _. refl; jumps = tt; caught = tt };
           argument = omega arith;
           stands = tt;
+          behind = λ w. cc;
           safe = refl;
           marked = refl;
         },
@@ -92,6 +95,7 @@ f_is_code = record {
             fits = record { has = omega arith; holds = omega arith; next = λ _. refl; jumps = tt; caught = tt };
             argument = omega arith;
             stands = tt;
+            behind = λ w. cc;
             safe = refl;
             marked = refl;
           },
@@ -100,6 +104,7 @@ f_is_code = record {
               fits = record { has = omega arith; holds = omega arith; next = λ h. cc; jumps = tt; caught = tt };
               argument = tt;
               stands = tt;
+              behind = λ w. cc;
               safe = refl;
               marked = refl;
             },
@@ -122,6 +127,7 @@ g_is_code = record {
       fits = record { has = omega arith; holds = omega arith; next = λ _. refl; jumps = tt; caught = tt };
       argument = omega arith;
       stands = tt;
+      behind = λ w. cc;
       safe = refl;
       marked = refl;
     },
@@ -130,6 +136,7 @@ g_is_code = record {
         fits = record { has = omega arith; holds = omega arith; next = λ _. refl; jumps = tt; caught = tt };
         argument = omega arith;
         stands = tt;
+        behind = λ w. cc;
         safe = refl;
         marked = refl;
       },
@@ -138,6 +145,7 @@ g_is_code = record {
           fits = record { has = omega arith; holds = omega arith; next = λ _. refl; jumps = tt; caught = tt };
           argument = omega arith;
           stands = tt;
+          behind = λ w. cc;
           safe = refl;
           marked = refl;
         },
@@ -146,6 +154,7 @@ g_is_code = record {
             fits = record { has = omega arith; holds = omega arith; next = λ h. cc; jumps = (omega arith, refl); caught = tt };
             argument = tt;
             stands = tt;
+            behind = λ w. cc;
             safe = refl;
             marked = refl;
           },

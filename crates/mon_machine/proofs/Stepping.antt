@@ -8,14 +8,14 @@ use Rattle.mon_events.specs.declared.op.Op.{Op}
 use Rattle.mon_code.specs.declared.program.Code.{Code}
 use Rattle.mon_code.specs.declared.program.Handler.{Handler}
 use Rattle.mon_code.specs.declared.program.Location.{Location}
-use Rattle.mon_code.specs.Programs.{Parts, op_at, location_at}
+use Rattle.mon_code.specs.Programs.{Parts, op_at, location_at, handler_at}
 use Rattle.mon_code.specs.Checked.{IsChecked, HasOp, is_target}
 use Rattle.mon_frames.specs.declared.frame.Frame.{Frame}
 use Rattle.mon_frames.specs.declared.call.Call.{Call}
 use Rattle.mon_frames.specs.declared.call.Generator.{Generator}
 use Rattle.mon_frames.specs.declared.call.Origin.{Origin}
 use Rattle.mon_frames.specs.declared.call.Origin.TheVariants.{Plain, Generator as Generated}
-use Rattle.mon_frames.specs.Calls.{handler_at, handler_in, handler_due}
+use Rattle.mon_frames.specs.Calls.{handler_in, handler_due}
 use Rattle.mon_machine.specs.declared.mode.Mode.{Mode}
 use Rattle.mon_machine.specs.declared.mode.Ending.{Ending}
 use Rattle.mon_machine.specs.State.{State, Move}

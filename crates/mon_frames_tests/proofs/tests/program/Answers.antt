@@ -44,7 +44,7 @@ right names named codes bases name n m c b = rw (n, m, c, b) record {
       locals = lit≤ tt;
       constants = (none_constant, tt);
       start = refl;
-      each = (record { fits = record { has = lit≤ tt; holds = lit≤ tt; next = λ _. refl; jumps = tt; caught = tt }; argument = lit< tt; stands = tt; safe = refl; marked = refl }, (record { fits = record { has = lit≤ tt; holds = lit≤ tt; next = λ _. refl; jumps = tt; caught = ((lit< tt, refl), lit≤ tt, lit≤ tt) }; argument = lit< tt; stands = tt; safe = refl; marked = refl }, (record { fits = record { has = lit≤ tt; holds = lit≤ tt; next = λ h. absurd (cc); jumps = tt; caught = tt }; argument = tt; stands = tt; safe = refl; marked = refl }, tt)));
+      each = (record { fits = record { has = lit≤ tt; holds = lit≤ tt; next = λ _. refl; jumps = tt; caught = tt }; argument = lit< tt; stands = tt; behind = λ h. absurd (cc); safe = refl; marked = refl }, (record { fits = record { has = lit≤ tt; holds = lit≤ tt; next = λ _. refl; jumps = tt; caught = ((lit< tt, refl), lit≤ tt, lit≤ tt) }; argument = lit< tt; stands = tt; behind = λ h. absurd (cc); safe = refl; marked = refl }, (record { fits = record { has = lit≤ tt; holds = lit≤ tt; next = λ h. absurd (cc); jumps = tt; caught = tt }; argument = tt; stands = tt; behind = λ h. absurd (cc); safe = refl; marked = refl }, tt)));
     },
     refl,
   );
