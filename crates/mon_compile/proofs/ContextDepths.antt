@@ -10,7 +10,7 @@ use Rattle.mon_compile.specs.declared.assembly.Label.{Label}
 use Rattle.mon_compile.specs.declared.assembly.Label.TheVariants.{At, EndOf, HandlerOf}
 use Rattle.mon_compile.specs.Contexts.{FromAt, Entry, While, For, Try, Except, ExceptAs, Finally, Raised, Returning, Context, Spot, put, none, above, beside, values, exceptions, handler_of, at_line, no_line, in_loop, drop_under, left_by_return, left_by_break}
 use Rattle.mon_compile.specs.Statements.{Scheme, leave_all, leave_loop, next_turn, break_code, continue_code}
-use Rattle.mon_compile.specs.Moved.{moved, moved_entry, moved_context, Fixes}
+use Rattle.mon_compile.specs.Moved.{moved, moved_entry, Fixes}
 pub use Rattle.mon_compile.specs.InnerContexts.{Closed}
 use Rattle.mon_compile.proofs.Fit.{Lands, Catches, Stands, Good, FitsAs, records_as, behind, before, join, catches_more, fits, fits_plain, fits_jump, off}
 use Rattle.mon_compile.proofs.StatementLabels.{Carrying}

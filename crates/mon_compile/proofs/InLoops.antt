@@ -1,6 +1,6 @@
 -- Which `break` and `continue` stand in a loop, and which are loose.
-use Rattle.std.proofs.Common.{◌≡◌, ℕ, Bool, true, false, IsTrue, List, [], ◌∷◌, ◌++◌, length, map, refl, sym, ap, ◌∙◌, subst, nat_lt, ◌+◌}
-use Rattle.std.specs.Prelude.{◌&&◌, None}
+use Rattle.std.proofs.Common.{◌≡◌, ℕ, Bool, true, false, List, [], ◌∷◌, ◌++◌, length, map, refl, sym, ap, ◌∙◌, subst, nat_lt, ◌+◌}
+use Rattle.std.specs.Prelude.{◌&&◌}
 use Rattle.std.specs.Bool.{Decides}
 use Rattle.mon_trees.specs.declared.tree.Function.{Function}
 use Rattle.mon_trees.specs.declared.tree.Handler.{Handler}

@@ -1,14 +1,11 @@
 -- Inner contexts are closed, and lengths depend on no label.
-use Rattle.std.proofs.Common.{◌≡◌, ℕ, List, ◌∷◌, map, refl, ap, ◌∙◌}
-use Rattle.mon_trees.specs.declared.tree.Handler.{Handler}
-use Rattle.mon_trees.specs.declared.tree.Statement.{Statement}
+use Rattle.std.proofs.Common.{◌≡◌, ◌∷◌, map, refl, ap, ◌∙◌}
 use Rattle.mon_compile.specs.declared.assembly.Label.{Label}
 use Rattle.mon_compile.specs.declared.assembly.Label.TheVariants.{At}
 use Rattle.mon_compile.specs.Contexts.{Entry, Except, Raised, Returning, Context}
-use Rattle.mon_compile.specs.Expressions.{Locals}
 use Rattle.mon_compile.specs.Statements.{statement_code, handler_code, block}
 use Rattle.mon_compile.specs.Moved.{Fixes, moved_entry, moved_context}
-use Rattle.mon_compile.specs.InnerContexts.{Closed, Around, While, For, Try, ExceptAs, Finally, entry_of, IsAround, AllPartsHaveLabels, SameLength, ClausesSameLength, InnerAreClosed, ContextsAreClosed}
+use Rattle.mon_compile.specs.InnerContexts.{Closed, Around, While, For, Try, ExceptAs, Finally, entry_of, IsAround, AllPartsHaveLabels, SameLength, ClausesSameLength, ContextsAreClosed}
 use Rattle.mon_compile.proofs.StatementLabels.{guarded_carrying}
 use Rattle.mon_compile.proofs.Labels.{body_carries, clauses_carry}
 use Rattle.mon_compile.proofs.ContextDepths.{same_length}

@@ -7,7 +7,7 @@ use Rattle.mon_compile.specs.declared.assembly.Label.TheVariants.{At}
 use Rattle.mon_compile.specs.Contexts.{Entry, Except, Raised, Returning, Context}
 use Rattle.mon_compile.specs.Contexts as entry
 use Rattle.mon_compile.specs.Expressions.{Locals}
-use Rattle.mon_compile.specs.Statements.{Scheme, ClauseScheme, block_code, handler_code, clauses_code, guarded}
+use Rattle.mon_compile.specs.Statements.{Scheme, block_code, handler_code, clauses_code, guarded}
 use Rattle.mon_compile.specs.Moved.{Fixes, moved, moved_context}
 
 -- with other labels in its context, a part is the same code with other labels
