@@ -2,6 +2,7 @@
 #![tactic(auto)]
 
 mod operator;
+mod own;
 mod program;
 
 pub use operator::{arith_number, arith_op_of_number, cmp_number, cmp_op_of_number};
