@@ -65,7 +65,7 @@ pub fn global_value(
     ensures { IfOk result (λ value. value ≡ spec.global_of program.now name.now) }
 {
     if let Some(value) = constant_named(program.constants.as_slice(), name) {
-        return Ok(Some(value.copy(alloc)?));
+        return Ok(Some(value.copy()?));
     }
     if let Some(number) = program.code_called(name) {
         return Ok(Some(Value::Function(number)));

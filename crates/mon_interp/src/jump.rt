@@ -19,7 +19,7 @@ pub fn copy(alloc: Global, frame: &mut Frame) -> Result<Ending, AllocError>
     match frame.stack.top() {
         None => Ok(Ending::Misses),
         Some(value) => {
-            let value = value.copy(alloc)?;
+            let value = value.copy()?;
             push(frame, value)
         }
     }

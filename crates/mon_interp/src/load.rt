@@ -25,7 +25,7 @@ pub fn load_const(
 {
     match constant {
         None => Ok(Ending::Misses),
-        Some(value) => push(frame, value.copy(alloc)?),
+        Some(value) => push(frame, value.copy()?),
     }
 }
 
@@ -53,7 +53,7 @@ pub fn load_fast(
         Some(slot) => match slot {
             None => raise_named(alloc, Trouble::NAME_NOT_BOUND, chars_or_none(name)),
             Some(value) => {
-                let value = value.copy(alloc)?;
+                let value = value.copy()?;
                 push(frame, value)
             }
         },
