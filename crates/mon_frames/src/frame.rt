@@ -38,6 +38,15 @@ impl Operands {
         }
     }
 
+    /// The empty stack, with room for so many values.
+    pub fn with_capacity(alloc: Global, count: usize) -> Result<Operands, AllocError>
+        ensures { IfOk result (λ stack. stack ≡ []) }
+    {
+        Ok(Operands {
+            items: Vec::with_capacity(alloc, count)?,
+        })
+    }
+
     /// Puts a value on top.
     pub fn push(&mut self, value: Value) -> Result<(), AllocError>
         ensures ok { OnOk result (self.new ≡ value ∷ self.old) }
@@ -185,11 +194,12 @@ impl Frame {
         ensures { IfOk result (λ frame. frame ≡ called code.now number args.items) }
     {
         let locals = locals_of(alloc, code.locals.len(), args)?;
+        let stack = Operands::with_capacity(alloc, 8)?;
         Ok(Frame {
             code: number,
             index: 0,
             locals,
-            stack: Operands::new(alloc),
+            stack,
             handling: Handling::new(alloc),
             line: None,
         })

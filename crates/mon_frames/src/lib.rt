@@ -5,6 +5,7 @@ mod call;
 mod fault;
 mod frame;
 mod handling;
+mod in_place;
 mod iteration;
 mod stack;
 #[cfg(test)]
@@ -14,5 +15,6 @@ pub use call::{By, Call, Generator, Origin};
 pub use fault::{FrameFault, IterFault};
 pub use frame::{Frame, Locals, Operands};
 pub use handling::Handling;
+pub use in_place::plain_copy;
 pub use iteration::{Iteration, item_at, item_count};
 pub use stack::{Frames, MAX_FRAMES, handler_of};

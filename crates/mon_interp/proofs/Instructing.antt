@@ -7,12 +7,13 @@ use Rattle.mon_code.specs.declared.program.Location.{Location}
 use Rattle.mon_code.specs.Programs.{Parts}
 use Rattle.mon_frames.specs.declared.frame.Frame.{Frame}
 use Rattle.mon_frames.specs.declared.call.Call.{Call}
-use Rattle.mon_frames.specs.Views.{FramesView, top_of}
-use Rattle.mon_machine.specs.State.{State, Move, with_frame}
-use Rattle.mon_machine.specs.Moves.{effect}
-use Rattle.mon_machine.specs.Step.{with_line, executed, after_ending}
-use Rattle.mon_interp.specs.declared.done.Done.{Done}
-use Rattle.mon_interp.specs.Moving.{Stands, frames_move, texts}
+use Rattle.mon_frames.specs.Views.{FramesView, top_of, with_top}
+use Rattle.mon_machine.specs.State.{State, FrameMove, moved, with_frame}
+use Rattle.mon_machine.specs.Operations.{operation}
+use Rattle.mon_machine.specs.Moves.{effect, operated}
+use Rattle.mon_machine.specs.Step.{with_line, executed}
+use Rattle.mon_machine.specs.declared.mode.Ending.TheVariants.{Continues}
+use Rattle.mon_interp.specs.Moving.{Stands, frame_move, ended_by}
 use Rattle.mon_interp.proofs.Standing.{top_with, stands_with, stands_within}
 
 -- there is an innermost frame
@@ -25,18 +26,26 @@ noted_stands v w line noted h =
     let i = innermost v.calls h in
     subst (λ (z : FramesView). Stands z.calls) (sym (noted i.0 i.1)) (stands_with v.calls i.0 (with_line line i.0) i.1 (stands_within v.calls i.0 h i.1))
 
-done_is : (p : Parts) (c : Code) (op : Op) (l : Location) (f : Frame) (v noted moved : FramesView) (done : Done) → top_of v.calls ≡ Some f → ((g : Frame) → top_of v.calls ≡ Some g → noted ≡ with_frame v (with_line l.line g))
-    → ((g : Frame) → top_of noted.calls ≡ Some g → effect p c op l.argument g noted ≡ frames_move moved done) → effect p c op l.argument (with_line l.line f) (with_frame v (with_line l.line f)) ≡ frames_move moved done
-done_is p c op l f v noted moved done top notes effects =
-    ap (λ (z : FramesView). effect p c op l.argument (with_line l.line f) z) (sym (notes f top))
-    ∙ effects (with_line l.line f) (ap (λ (z : FramesView). top_of z.calls) (notes f top) ∙ top_with v.calls f (with_line l.line f) top)
+-- an instruction of the top frame, once this has its line
+pub executed_after : (p : Parts) (c : Code) (op : Op) (l : Location) (f : Frame) (v noted : FramesView) (last : State) → top_of v.calls ≡ Some f → noted ≡ with_frame v (with_line l.line f)
+    → ((g : Frame) → top_of noted.calls ≡ Some g → ended_by p (effect p c op l.argument g noted) ≡ last) → (executed p c op l f v).after ≡ last
+executed_after p c op l f v noted last top notes ends =
+    ap (λ (z : FramesView). ended_by p (effect p c op l.argument (with_line l.line f) z)) (sym notes)
+    ∙ ends (with_line l.line f) (ap (λ (z : FramesView). top_of z.calls) notes ∙ top_with v.calls f (with_line l.line f) top)
 
-pub executed_after : (p : Parts) (c : Code) (op : Op) (l : Location) (f : Frame) (v noted moved : FramesView) (done : Done) (last : State) → top_of v.calls ≡ Some f → ((g : Frame) → top_of v.calls ≡ Some g → noted ≡ with_frame v (with_line l.line g))
-    → ((g : Frame) → top_of noted.calls ≡ Some g → effect p c op l.argument g noted ≡ frames_move moved done) → after_ending p moved done.ending ≡ last → (executed p c op l f v).after ≡ last
-executed_after p c op l f v noted moved done last top notes effects ends =
-    ap (λ (m : Move). after_ending p m.frames m.ending) (done_is p c op l f v noted moved done top notes effects) ∙ ends
+pub executed_printed : (p : Parts) (c : Code) (op : Op) (l : Location) (f : Frame) (v noted : FramesView) (printed : List (List ℕ)) → top_of v.calls ≡ Some f → noted ≡ with_frame v (with_line l.line f)
+    → ((g : Frame) → top_of noted.calls ≡ Some g → (effect p c op l.argument g noted).printed ≡ printed) → (executed p c op l f v).printed ≡ printed
+executed_printed p c op l f v noted printed top notes prints =
+    ap (λ (z : FramesView). (effect p c op l.argument (with_line l.line f) z).printed) (sym notes)
+    ∙ prints (with_line l.line f) (ap (λ (z : FramesView). top_of z.calls) notes ∙ top_with v.calls f (with_line l.line f) top)
 
-pub executed_printed : (p : Parts) (c : Code) (op : Op) (l : Location) (f : Frame) (v noted moved : FramesView) (done : Done) → top_of v.calls ≡ Some f → ((g : Frame) → top_of v.calls ≡ Some g → noted ≡ with_frame v (with_line l.line g))
-    → ((g : Frame) → top_of noted.calls ≡ Some g → effect p c op l.argument g noted ≡ frames_move moved done) → (executed p c op l f v).printed ≡ texts done.printed
-executed_printed p c op l f v noted moved done top notes effects =
-    ap (λ (m : Move). m.printed) (done_is p c op l f v noted moved done top notes effects)
+with_again : (calls : List Call) (f g : Frame) → with_top (with_top calls f) g ≡ with_top calls g
+with_again [] f g = refl
+with_again (call ∷ calls) f g = refl
+
+-- an instruction that was done in its own frame
+pub in_top_alone : (p : Parts) (c : Code) (op : Op) (n : ℕ) (f g : Frame) (v w : FramesView) → operation p c op n f ≡ frame_move g (Some Continues) → w ≡ with_frame v g → effect p c op n f (with_frame v f) ≡ moved w Continues
+in_top_alone p c op n f g v w is made =
+    ap (λ (o : Option FrameMove). operated p op n f (with_frame v f) o) is
+    ∙ ap (λ (l : List Call). moved (record v { calls = l }) Continues) (with_again v.calls f g)
+    ∙ ap (λ (z : FramesView). moved z Continues) (sym made)

@@ -2,6 +2,7 @@ pub mod Answered
 pub mod Builtins
 pub mod Globals
 pub mod Heard
+pub mod InPlace
 pub mod Instructing
 pub mod Iterated
 pub mod Matching

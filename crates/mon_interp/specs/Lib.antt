@@ -1,4 +1,5 @@
 pub mod Heard
+pub mod InPlace
 pub mod Machines
 pub mod Moving
 pub mod Threads

@@ -12,7 +12,8 @@ use Rattle.mon_events.specs.declared.event.Event.{Event}
 use Rattle.mon_values.specs.declared.value.Exc.{Exc}
 use Rattle.mon_machine.specs.declared.mode.Ending.{Ending}
 use Rattle.mon_machine.specs.State.{State, FrameMove, Move}
-use Rattle.mon_machine.specs.Step.{in_mode_of}
+use Rattle.mon_code.specs.Programs.{Parts}
+use Rattle.mon_machine.specs.Step.{in_mode_of, after_ending}
 use Rattle.mon_machine.specs.Moves.{callee_in, args_in, below_in, with_stack}
 use Rattle.mon_interp.specs.declared.done.Done.{Done}
 
@@ -25,6 +26,10 @@ frame_move f (Some ending) = Some (record { frame = f; ending = ending })
 abbrev pub Stands : List Call → Type 0
 Stands [] = ⊥
 Stands (call ∷ calls) = call.frame.index < 65536
+
+-- how a thread goes on after a move
+abbrev pub ended_by : Parts → Move → State
+ended_by p m = after_ending p m.frames m.ending
 
 abbrev pub texts : Option (List ℕ) → List (List ℕ)
 texts None = []

@@ -1,8 +1,8 @@
 //! What tools hear of a step.
 
-ghost use Rattle.std.specs.Prelude.{◌≡◌, ◌++◌, OnOk, ℕ};
+ghost use Rattle.std.specs.Prelude.{◌≡◌, ◌++◌, nat_lt, OnOk, ℕ};
 ghost use Rattle.mon_events.specs.declared.event.Slot.TheVariants as slot;
-ghost use Rattle.mon_words.specs.Words.{cell_of, is_enabled};
+ghost use Rattle.mon_words.specs.Words.{cell_of, enabled_in, is_enabled};
 ghost use Rattle.mon_machine.specs.Events.{line_events};
 ghost use Rattle.mon_machine.specs.Run.{records_for, heard};
 ghost use Rattle.mon_interp.specs.Heard.{cell_hears, line_record};
@@ -43,6 +43,13 @@ fn hear(
     Ok(())
 }
 
+// Whether a word enables LINE for a tool.
+fn enables_lines(word: u64) -> bool
+    ensures { result ≡ nat_lt 0 (enabled_in (cell_of word) 0) }
+{
+    (((word >> 16) % 16_777_216) & (word >> 40)) % 64 > 0
+}
+
 /// Records the line of a location, where it differs from the frame's last one.
 pub fn hear_line(
     alloc: Global,
@@ -54,6 +61,9 @@ pub fn hear_line(
 ) -> Result<(), AllocError>
     ensures { OnOk result ((location : ℕ) → records.new ≡ records.old ++ heard (cell_hears (cell_of word)) step (line_events frame.now location line frame.now.line)) }
 {
+    if !enables_lines(word) {
+        return Ok(());
+    }
     match (line, frame.line) {
         (None, _) => Ok(()),
         (Some(line), None) => hear(alloc, records, word, step, frame.code, line),

@@ -76,7 +76,8 @@ pub fn pop_jump_if(wanted: bool, frame: &mut Frame, to: u32) -> Ending
     }
 }
 
-fn is_done(v: &Value) -> bool
+/// Whether a value is the end of a loop.
+pub fn is_done(v: &Value) -> bool
     ensures { result ≡ spec.is_done v.now }
 {
     matches!(v, Value::Done(_))

@@ -15,6 +15,7 @@ mod machine;
 mod operate;
 mod operator;
 mod perform;
+mod quick;
 mod sequence;
 mod settle;
 mod step;

@@ -2,11 +2,12 @@
 
 ghost use Rattle.std.specs.Prelude.{◌≡◌, ◌++◌, OnOk};
 ghost use Rattle.mon_machine.specs.Run as run;
+ghost use Rattle.mon_machine.specs.declared.mode.Mode.TheVariants.{Run as Running};
 ghost use Rattle.mon_interp.specs.Moving.{texts};
 
 use crate::hear::hear_line;
 use crate::settle::unwind;
-use crate::step::instruct;
+use crate::step::{instruct, instruct_in_place};
 use mon_code::{Code, Location, Program};
 use mon_events::{Op, op_of_number};
 use mon_frames::Frames;
@@ -47,6 +48,16 @@ fn put<T: Drop>(place: &mut T, value: T)
     *place = value;
 }
 
+// Goes on in a mode. A machine that runs on is left as it is.
+fn turn(place: &mut Mode, mode: Mode)
+    requires { place.old ≡ Running }
+    ensures { place.new ≡ mode }
+{
+    if !matches!(mode, Mode::Run) {
+        *place = mode;
+    }
+}
+
 impl Machine {
     ghost use Rattle.std.specs.Prelude.{◌≡◌, ◌+◌, ◌<◌, ◌≤◌, ◌^◌, Some, map, true, ℕ, Bool, IsTrue, OnOk, IfOk, []};
     ghost use Rattle.mon_words.specs.Words.{cell_of};
@@ -84,6 +95,7 @@ impl Machine {
         location: Location,
     ) -> Result<(), AllocError>
         requires stands { Stands self.old.frames.calls }
+        requires runs { self.old.mode ≡ Run }
         requires counted { self.old.steps < 2 ^ 63 }
         ensures step { OnOk result ((f : FrameOf) → top_of self.old.frames.calls ≡ Some f → Stepped (executed program.now code.now op location f self.old.frames) (cell_hears (cell_of word)) (progress_of self.old) (progress_of self.new)) }
         ensures counted { (self.old.steps ≤ self.new.steps) × (self.new.steps ≤ self.old.steps + 1) }
@@ -96,8 +108,13 @@ impl Machine {
             self.frames.top(),
             location.line,
         )?;
-        let went = instruct(self.alloc, program, code, &mut self.frames, op, location)?;
-        put(&mut self.mode, went.mode);
+        if instruct_in_place(program, code, &mut self.frames, op, location) {
+            self.steps += 1;
+            return Ok(());
+        }
+        let argument = location.argument;
+        let went = instruct(self.alloc, program, code, &mut self.frames, op, argument)?;
+        turn(&mut self.mode, went.mode);
         add_text(&mut self.printed, went.printed)?;
         self.steps += 1;
         Ok(())
@@ -180,11 +197,13 @@ impl Machine {
         ensures sees { Sees (H.told handle.old) (H.told handle.new) }
         ensures rest { H.rest handle.new ≡ H.rest handle.old }
     {
+        if matches!(self.mode, Mode::Run) {
+            return self.run_step(program, handle);
+        }
         let mode = mem::replace(&mut self.mode, Mode::Run);
         match mode {
-            Mode::Run => self.run_step(program, handle),
             Mode::Unwind(exc) => self.unwind_step(program, exc),
-            Mode::Ended(_) | Mode::Stuck => unreachable!(),
+            Mode::Run | Mode::Ended(_) | Mode::Stuck => unreachable!(),
         }
     }
 
