@@ -38,6 +38,7 @@ impl Model for Iteration {
 
 impl Iteration {
     /// An iterator over the items of a value, which it takes; none of a value without items.
+    #[tactic(auto, using(crate::proofs::Counting::counted_some, crate::proofs::Counting::counted_none, crate::proofs::Counting::counted_length))]
     pub fn over(v: Value) -> Option<Iteration>
         ensures { result ≡ items_of v }
     {
@@ -50,6 +51,7 @@ impl Iteration {
     }
 
     /// The next item, if one is left. Where none is, the value that was gone over is dropped.
+    #[tactic(auto, using(crate::proofs::Counting::none_of_none, crate::proofs::Counting::none_dropped, crate::proofs::Lists::left_some))]
     pub fn next(&mut self, alloc: Global) -> Result<Option<Value>, AllocError>
         ensures { GivesFirst result self.old self.new }
     {
@@ -83,13 +85,17 @@ fn integer_count(start: i64, stop: i64, step: i64) -> u64
 }
 
 /// The item of a value at a place, from 0, if there is one.
+#[tactic(auto, using(crate::proofs::Counting::counted_length, crate::proofs::Counting::none_past, crate::proofs::Counting::none_uncounted))]
 pub fn item_at(alloc: Global, v: &Value, place: u64) -> Result<Option<Value>, AllocError>
     ensures { IfOk result (λ item. item ≡ slice_get (or_none (items_of v.now)) place) }
 {
-    match item_count(v) {
-        Some(count) if place < count => Ok(Some(item_within(alloc, v, place)?)),
-        _ => Ok(None),
+    let Some(count) = item_count(v) else {
+        return Ok(None);
+    };
+    if place >= count {
+        return Ok(None);
     }
+    Ok(Some(item_within(alloc, v, place)?))
 }
 
 /// The item of a value at a place where it has one.
