@@ -1,7 +1,7 @@
 -- Lists by their last item, and lists that are seen from their end.
-use Rattle.std.proofs.Common.{add-one, ◌≡◌, ℕ, zero, suc, ◌+◌, ◌-◌, ◌<◌, List, [], ◌∷◌, ◌++◌, length, take, drop, get_or, reverse, refl, sym, ap, ◌∙◌, arith, length-append, length-drop}
+use Rattle.std.proofs.Common.{add-one, ◌≡◌, ℕ, zero, suc, ◌+◌, ◌-◌, ◌<◌, ◌≤◌, List, [], ◌∷◌, ◌++◌, length, take, drop, get_or, reverse, refl, sym, ap, ◌∙◌, arith, length-append, length-drop}
 use Rattle.std.specs.Prelude.{slice_get, slice_set, Some, None}
-use Rattle.std.proofs.lemmas.List.{reverse-append, reverse-reverse, length-reverse, take-append-drop, drop_more}
+use Rattle.std.proofs.lemmas.List.{reverse-append, reverse-reverse, length-reverse, length-take-le, take-take, take-append-drop, drop_more}
 use Rattle.std.proofs.lemmas.Option.{slice_get_within, get_or_from_slice_get}
 use Rattle.std.proofs.Math.Seq.{take-append_seam, drop-append_seam, drop-nil}
 use Rattle.mon_frames.specs.Items.{lowest}
@@ -60,6 +60,15 @@ module _ {A : Type 0} (xs : List A) (n count : ℕ) (cut : n + count ≡ length 
 
   pub left_reversed : reverse (take n xs) ≡ drop count (reverse xs)
   left_reversed = sym (ap (λ k. drop k (reverse xs)) above ∙ ap (λ l. drop (length (reverse (drop n xs))) l) split ∙ drop-append_seam (reverse (drop n xs)) (reverse (take n xs)))
+
+-- the topmost two are replaced by one
+pub two_replaced : {A : Type 0} (xs first second later : List A) (m n : ℕ) (x : A) → m ≡ length xs → 2 ≤ length xs → first ≡ take (m - 1) xs → n ≡ length first → second ≡ take (n - 1) first → later ≡ second ++ x ∷ [] → reverse later ≡ x ∷ drop 2 (reverse xs)
+two_replaced xs first second later m n x p h f q s l =
+    let shorter : length first ≡ length xs - 1 = ap length f ∙ length-take-le (m - 1) xs (omega arith) ∙ ap (λ k. k - 1) p in
+    let at : length first - 1 ≡ length xs - 2 = omega arith in
+    let one : first ≡ take (length xs - 1) xs = f ∙ ap (λ k. take (k - 1) xs) p in
+    let two : second ≡ take (length xs - 2) xs = s ∙ ap (λ k. take (k - 1) first) q ∙ ap (λ k. take k first) at ∙ ap (λ l. take (length xs - 2) l) one ∙ take-take (length xs - 2) (length xs - 1) xs (omega arith) in
+    ap (λ l. reverse l) (l ∙ ap (λ b. b ++ x ∷ []) two) ∙ reverse-append (take (length xs - 2) xs) (x ∷ []) ∙ ap (λ r. x ∷ r) (left_reversed xs (length xs - 2) 2 (omega arith))
 
 -- what is left of a list from a place on
 pub left_none : {A : Type 0} (xs : List A) (i : ℕ) → slice_get xs i ≡ None → drop i xs ≡ []

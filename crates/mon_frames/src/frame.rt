@@ -86,7 +86,8 @@ impl Operands {
         ensures err { OnErr result (self.new ≡ self.old) }
     {
         let left = self.items.len() - count;
-        self.items.split_off(left)
+        let taken = self.items.split_off(left)?;
+        Ok(taken)
     }
 
     /// Takes values off the top until no more than so many are left.

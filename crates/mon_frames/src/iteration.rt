@@ -105,7 +105,7 @@ fn item_within(alloc: Global, v: &Value, place: u64) -> Result<Value, AllocError
 {
     match v {
         Value::Text(text) => char_at(alloc, text.chars(), place as usize),
-        Value::Tuple(items) => items.as_slice()[place as usize].copy(),
+        Value::Tuple(items) => Ok(items.as_slice()[place as usize].copy()?),
         Value::Range(start, stop, step) => Ok(integer_at(*start, *stop, *step, place)),
         _ => unreachable!(),
     }

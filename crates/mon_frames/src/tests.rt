@@ -282,7 +282,7 @@ fn values_are_gone_over(rt: HostRuntime) -> Result<(), Fail> {
 
 #[test]
 fn handlers_are_as_recorded(rt: HostRuntime) -> Result<(), Fail> {
-    let program = program(rt.alloc())?;
+    let program = program(rt.alloc())?.own(rt.alloc())?;
     assert!(rt; handler_of(&program, 0, 1).map(|handler| handler.to) == Some(2));
     assert!(rt; handler_of(&program, 0, 0).is_none() && handler_of(&program, 0, 3).is_none());
     assert!(rt; handler_of(&program, 1, 1).is_none());
