@@ -78,7 +78,6 @@ impl Operands {
     }
 
     /// Takes the topmost values off, so many; the lowest of them comes first.
-    #[tactic(auto, using(crate::proofs::Lists::top_reversed, crate::proofs::Lists::left_reversed))]
     pub fn take_top(&mut self, count: usize) -> Result<Vec<Value>, AllocError>
         requires { count ≤ length self.old }
         ensures taken { IfOk result (λ taken. taken.items ≡ reverse (take count self.old)) }

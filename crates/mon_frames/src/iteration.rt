@@ -105,7 +105,7 @@ fn item_within(alloc: Global, v: &Value, place: u64) -> Result<Value, AllocError
 {
     match v {
         Value::Text(text) => char_at(alloc, text.chars(), place as usize),
-        Value::Tuple(items) => Ok(items.as_slice()[place as usize].copy()?),
+        Value::Tuple(items) => copy_at(items.as_slice(), place as usize),
         Value::Range(start, stop, step) => Ok(integer_at(*start, *stop, *step, place)),
         _ => unreachable!(),
     }
@@ -116,6 +116,16 @@ fn char_at(alloc: Global, chars: &[char], place: usize) -> Result<Value, AllocEr
     ensures { IfOk result (λ item. Some item ≡ slice_get (map one_char chars.now) place) }
 {
     Ok(Value::Text(Text::from_chars(alloc, &[chars[place]])?))
+}
+
+fn copy_at(items: &[Value], place: usize) -> Result<Value, AllocError>
+    requires { place < length items.now }
+    ensures { IfOk result (λ item. Some item ≡ slice_get items.now place) }
+{
+    match items.get(place) {
+        None => unreachable!(),
+        Some(item) => Ok(item.copy()?),
+    }
 }
 
 fn integer_at(start: i64, stop: i64, step: i64, place: u64) -> Value
