@@ -1,7 +1,7 @@
 use crate::{Given, call_builtin};
 use mon_frames::Frames;
-use mon_values::print::repr;
 use mon_shared::SharedItems;
+use mon_values::print::repr;
 use mon_values::text::{Text, TextBuffer};
 use mon_values::value::Value;
 use std::alloc::{AllocError, Global};
@@ -110,7 +110,11 @@ fn check(rt: &impl Abort, alloc: Global, rows: &[Row]) -> Result<(), AllocError>
 static VALUES: &[Row] = &[
     Row(1, &[Sample::Range(0, 10, 3)], Want::Value("4")),
     Row(1, &[Sample::Letters(3)], Want::Value("3")),
-    Row(1, &[Sample::Chars(&['\u{e9}', '\u{6f22}'])], Want::Value("2")),
+    Row(
+        1,
+        &[Sample::Chars(&['\u{e9}', '\u{6f22}'])],
+        Want::Value("2"),
+    ),
     Row(1, &[Sample::Pair(1, 2)], Want::Value("2")),
     Row(2, &[Sample::Int(4)], Want::Value("range(0, 4)")),
     Row(

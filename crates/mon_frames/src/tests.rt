@@ -7,10 +7,10 @@ ghost use Rattle.mon_frames.specs.Views.{Takes};
 
 use crate::{FrameFault, Frames, Handling, Operands, Origin, handler_of, item_at, item_count};
 use mon_code::{Code, Handler, Location, Program};
+use mon_shared::SharedItems;
 use mon_values::print::repr;
 use mon_values::text::Text;
 use mon_values::value::{Exc, Value};
-use mon_shared::SharedItems;
 use sqlite_items::Items;
 use std::alloc::{AllocError, Global};
 use std::test::Fail;
@@ -140,7 +140,11 @@ fn a_call_is_pushed_and_popped(rt: HostRuntime) -> Result<(), Fail> {
     let alloc = rt.alloc();
     let program = program(alloc)?;
     let mut frames = Frames::new(alloc);
-    assert!(rt; frames.push_call(&program, 0, only(alloc, Value::Int(7))?).is_ok());
+    assert!(rt;
+        frames
+            .push_call(&program, 0, only(alloc, Value::Int(7))?)
+            .is_ok()
+    );
     assert!(rt; frames.depth() == 1 && has_locals(alloc, &frames, "7")?);
     if frames.depth() == 1 {
         assert!(rt; frames.origin() == Origin::Plain);
@@ -157,7 +161,11 @@ fn no_more_frames_than_a_thousand_stand(rt: HostRuntime) -> Result<(), Fail> {
     let program = program(alloc)?;
     let mut frames = Frames::new(alloc);
     for _turn in 0..1000 {
-        assert!(rt; frames.push_call(&program, 0, only(alloc, Value::None)?).is_ok());
+        assert!(rt;
+            frames
+                .push_call(&program, 0, only(alloc, Value::None)?)
+                .is_ok()
+        );
     }
     assert!(rt; frames.push_call(&program, 0, only(alloc, Value::None)?) == Err(FrameFault::Full));
     assert!(rt; frames.depth() == 1000);
@@ -179,7 +187,11 @@ fn the_innermost_frame_that_handles_an_exception_is_found(rt: HostRuntime) -> Re
     let program = program(alloc)?;
     let mut frames = Frames::new(alloc);
     assert!(rt; is_handled(frames.handled(), None));
-    assert!(rt; frames.push_call(&program, 0, only(alloc, Value::None)?).is_ok());
+    assert!(rt;
+        frames
+            .push_call(&program, 0, only(alloc, Value::None)?)
+            .is_ok()
+    );
     if frames.depth() > 0 {
         let handling = &mut frames.top_mut().handling;
         handling.push(Exc {
@@ -191,7 +203,11 @@ fn the_innermost_frame_that_handles_an_exception_is_found(rt: HostRuntime) -> Re
             arg: None,
         })?;
     }
-    assert!(rt; frames.push_call(&program, 0, only(alloc, Value::None)?).is_ok());
+    assert!(rt;
+        frames
+            .push_call(&program, 0, only(alloc, Value::None)?)
+            .is_ok()
+    );
     assert!(rt; is_handled(frames.handled(), Some(13)));
     Ok(())
 }

@@ -7,7 +7,8 @@ use crate::operator::CmpOp;
 use crate::print::repr;
 use crate::text::{Text, TextBuffer};
 use crate::truth::is_true;
-use crate::value::{Value, copy_items};
+use crate::value::{Value, copies_of};
+use mon_shared::SharedItems;
 use std::alloc::{AllocError, Global};
 use std::test::Fail;
 
@@ -77,7 +78,8 @@ fn copies_are_equal(rt: HostRuntime) -> Result<(), Fail> {
 }
 
 fn copied_items(alloc: Global) -> Result<Value, AllocError> {
-    Ok(Value::Tuple(copy_items(alloc, &[Value::Int(1), Value::None])?))
+    let copies = copies_of(alloc, &[Value::Int(1), Value::None])?;
+    Ok(Value::Tuple(SharedItems::from_vec(copies)?))
 }
 
 #[test]
