@@ -22,14 +22,6 @@ weight_int n = ap weight (sym (rolls-Int n)) ∙ fold-roll-Value ℕ ℕ weight_
 depth_int : (n : ℤ) → depth (Int n) ≡ 0
 depth_int n = ap depth (sym (rolls-Int n)) ∙ fold-roll-Value ℕ ℕ depth_step exc_depth_step (Value-F.Int n)
 
-chars_weigh : (chars : List ℕ) → sum_by weight (map one_char chars) ≡ length chars
-chars_weigh [] = refl
-chars_weigh (c ∷ chars) = omega (arith, sum_by-cons weight (one_char c) (map one_char chars), weight_text (c ∷ []), chars_weigh chars)
-
-chars_nest : (chars : List ℕ) → greatest (map depth (map one_char chars)) ≡ 0
-chars_nest [] = refl
-chars_nest (c ∷ chars) = omega (arith, depth_text (c ∷ []), chars_nest chars)
-
 range_weighs : (start step : ℤ) (place count : ℕ) → sum_by weight (range_items start step place count) ≡ count
 unfolding range_items
 range_weighs start step place zero = refl
@@ -40,12 +32,6 @@ range_nests : (start step : ℤ) (place count : ℕ) → greatest (map depth (ra
 unfolding range_items
 range_nests start step place zero = refl
 range_nests start step place (suc count) = omega (arith, depth_int (range_item start step place), range_nests start step (place + 1) count)
-
-pub chars_made : (chars : List ℕ) → length chars ≤ 4095 → made (Tuple (map one_char chars)) ≡ Ok (Tuple (map one_char chars))
-chars_made chars h = tuple_made (map one_char chars) (omega (arith, sum-map weight (map one_char chars), chars_weigh chars)) (omega (arith, chars_nest chars))
-
-pub chars_heavy : (chars : List ℕ) → 4095 < length chars → made (Tuple (map one_char chars)) ≡ Err too_large
-chars_heavy chars h = tuple_heavy (map one_char chars) (omega (arith, sum-map weight (map one_char chars), chars_weigh chars))
 
 pub range_made : (start step : ℤ) (count : ℕ) → count ≤ 4095 → made (Tuple (range_items start step 0 count)) ≡ Ok (Tuple (range_items start step 0 count))
 range_made start step count h = tuple_made (range_items start step 0 count) (omega (arith, sum-map weight (range_items start step 0 count), range_weighs start step 0 count)) (omega (arith, range_nests start step 0 count))
@@ -59,12 +45,3 @@ refused {due} {t} e = subst (λ d. AnswersValue (Err (refusal.Trouble t)) d) (sy
 
 pub given : {due : Result Value Trouble} {v w : Value} → due ≡ Ok w → v ≡ w → AnswersValue (Ok v) due
 given {due} {v} {w} e h = subst (λ d. AnswersValue (Ok v) d) (sym e) h
-
-pub items_heavy : (items : List Value) (r : Option ℕ) → r ≡ left_of 4095 (sum (map weight items)) → r ≡ None → made (Tuple items) ≡ Err too_large
-items_heavy items r l h = tuple_heavy items (left_none 4095 (sum (map weight items)) r l h)
-
-pub items_deep : (items : List Value) (r : Option ℕ) (left : ℕ) (s : Bool) → r ≡ left_of 4095 (sum (map weight items)) → r ≡ Some left → s ≡ nat_le (greatest (map depth items)) 63 → s ≡ false → made (Tuple items) ≡ Err nested_too_deeply
-items_deep items r left s l h d e = tuple_deep items (omega (arith, left_some 4095 (sum (map weight items)) left r l h)) (test_false (greatest (map depth items)) 63 s d e)
-
-pub items_made : (items : List Value) (r : Option ℕ) (left : ℕ) (s : Bool) → r ≡ left_of 4095 (sum (map weight items)) → r ≡ Some left → s ≡ nat_le (greatest (map depth items)) 63 → s ≡ true → made (Tuple items) ≡ Ok (Tuple items)
-items_made items r left s l h d e = tuple_made items (omega (arith, left_some 4095 (sum (map weight items)) left r l h)) (test_true (greatest (map depth items)) 63 s d e)

@@ -68,7 +68,7 @@ fn iter(alloc: Global, args: &[Value], frames: &mut Frames) -> Result<Given, Bui
     ensures { AnswersCall result (spec.iter_due frames.old args.now) frames.old frames.new }
 {
     match args {
-        [x] => match frames.iterate(x) {
+        [x] => match frames.iterate(x.copy()?) {
             Ok(v) => Ok(Given::Value(v)),
             Err(IterFault::Trouble(trouble)) => Ok(raise(alloc, trouble)?),
             Err(IterFault::Memory) => Err(BuiltinFault::Memory),

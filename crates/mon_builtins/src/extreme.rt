@@ -46,7 +46,7 @@ impl Wanted {
 }
 
 /// The best of a value and of those that follow.
-fn best_of(alloc: Global, op: CmpOp, first: &Value, others: &[Value]) -> Result<Value, Refusal>
+fn best_of(op: CmpOp, first: &Value, others: &[Value]) -> Result<Value, Refusal>
     ensures { AnswersValue result (spec.best_of op first.now others.now) }
 {
     let mut best = first;
@@ -57,15 +57,15 @@ fn best_of(alloc: Global, op: CmpOp, first: &Value, others: &[Value]) -> Result<
             Err(trouble) => return Err(Refusal::Trouble(trouble)),
         }
     }
-    Ok(best.copy(alloc)?)
+    Ok(best.copy()?)
 }
 
-fn best_among(alloc: Global, op: CmpOp, items: &[Value]) -> Result<Value, Refusal>
+fn best_among(op: CmpOp, items: &[Value]) -> Result<Value, Refusal>
     ensures { AnswersValue result (spec.best_among op items.now) }
 {
     match items.get(0) {
         None => Err(Refusal::Trouble(Trouble::EMPTY_ARGUMENT)),
-        Some(first) => best_of(alloc, op, first, &items[1..]),
+        Some(first) => best_of(op, first, &items[1..]),
     }
 }
 
@@ -90,9 +90,9 @@ fn best_item(alloc: Global, wanted: Wanted, x: &Value) -> Result<Value, Refusal>
     match x {
         Value::Text(text) => {
             let items = items_of_text(alloc, text.chars())?;
-            best_among(alloc, wanted.op(), items.as_slice())
+            best_among(wanted.op(), items.as_slice())
         }
-        Value::Tuple(items) => best_among(alloc, wanted.op(), items.as_slice()),
+        Value::Tuple(items) => best_among(wanted.op(), items.as_slice()),
         Value::Range(start, stop, step) => {
             best_of_range(wanted, *start, *stop, *step).map_err(Refusal::Trouble)
         }
@@ -107,6 +107,6 @@ pub fn extreme(alloc: Global, wanted: Wanted, args: &[Value]) -> Result<Value, R
     match args {
         [] => Err(Refusal::Trouble(Trouble::WRONG_COUNT)),
         [x] => best_item(alloc, wanted, x),
-        _ => best_among(alloc, wanted.op(), args),
+        _ => best_among(wanted.op(), args),
     }
 }

@@ -15,7 +15,7 @@ fn is_blank(c: char) -> bool
 fn is_digit(c: char) -> bool
     ensures { result ≡ spec.is_digit c }
 {
-    '0' <= c && c <= '9'
+    c.is_ascii_digit()
 }
 
 /// The characters from the first that is no blank on.

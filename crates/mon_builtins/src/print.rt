@@ -4,7 +4,7 @@ ghost use Rattle.mon_builtins.specs.Builtins as spec;
 use crate::given::{BuiltinFault, Given, raise};
 use mon_values::fault::Trouble;
 use mon_values::print::text_of;
-use mon_values::text::Text;
+use mon_values::text::{Text, TextBuffer};
 use mon_values::value::Value;
 use mon_values::weight::MAX_WEIGHT;
 use std::alloc::{AllocError, Global};
@@ -24,16 +24,21 @@ fn short(line: Text) -> Option<Text>
 fn line_of(alloc: Global, args: &[Value], names: &[Text]) -> Result<Option<Text>, AllocError>
     ensures { IfOk result (λ line. line ≡ spec.short (spec.line_of names.now args.now)) }
 {
-    match args.get(0) {
-        None => Ok(Some(Text::new(alloc))),
-        Some(first) => with_others(alloc, text_of(alloc, first, names)?, &args[1..], names),
+    match args {
+        [] => Ok(Some(Text::new())),
+        [only] => Ok(short(text_of(alloc, only, names)?)),
+        [first, ..] => {
+            let mut line = TextBuffer::new(alloc);
+            line.append(text_of(alloc, first, names)?.chars())?;
+            with_others(alloc, line, &args[1..], names)
+        }
     }
 }
 
 /// A line with the texts of further arguments behind it, each behind a space; none where it is too long.
 fn with_others(
     alloc: Global,
-    first: Text,
+    first: TextBuffer,
     others: &[Value],
     names: &[Text],
 ) -> Result<Option<Text>, AllocError>
@@ -47,7 +52,7 @@ fn with_others(
         line.push(' ')?;
         line.append(text_of(alloc, arg, names)?.chars())?;
     }
-    Ok(short(line))
+    Ok(short(line.into_text()?))
 }
 
 /// `print(..)`: a line over 4,096 characters raises, and nothing is put out.

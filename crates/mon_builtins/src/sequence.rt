@@ -7,23 +7,23 @@ ghost use Rattle.mon_builtins.specs.Answers.{AnswersValue};
 ghost use Rattle.mon_builtins.specs.Builtins as spec;
 
 use crate::given::Refusal;
+use mon_shared::SharedItems;
 use mon_values::fault::Trouble;
 use mon_values::range::{range_item, range_len};
 use mon_values::text::Text;
-use mon_values::value::{Tuple, Value, copy_items};
-use mon_values::weight::{MAX_DEPTH, MAX_WEIGHT, all_nest_at_most, spend_items};
-use sqlite_items::Items;
+use mon_values::value::{Tuple, Value};
+use mon_values::weight::{MAX_WEIGHT, made_tuple};
 use std::alloc::{AllocError, Global};
 
 /// The characters of a text, each as a text.
 pub fn items_of_text(alloc: Global, chars: &[char]) -> Result<Tuple, AllocError>
     ensures { IfOk result (λ items. items ≡ map one_char chars.now) }
 {
-    let mut items = Items::new(alloc);
+    let mut items = Vec::new(alloc);
     for c in chars {
         items.push(Value::Text(Text::from_chars(alloc, &[*c])?))?;
     }
-    Ok(items)
+    SharedItems::from_vec(items)
 }
 
 /// The first integers of a range, so many.
@@ -37,20 +37,18 @@ fn items_of_range(
     requires { count ≤ range_length start stop step }
     ensures { IfOk result (λ items. items ≡ range_items start step 0 count) }
 {
-    let mut items = Items::new(alloc);
+    let mut items = Vec::new(alloc);
     for place in 0..count {
         items.push(Value::Int(range_item(start, stop, step, place)))?;
     }
-    Ok(items)
+    SharedItems::from_vec(items)
 }
 
 fn tuple_of_text(alloc: Global, chars: &[char]) -> Result<Value, Refusal>
     ensures { AnswersValue result (made (the_tuple (map one_char chars.now))) }
 {
-    if chars.len() > MAX_WEIGHT as usize - 1 {
-        return Err(Refusal::Trouble(Trouble::TOO_LARGE));
-    }
-    Ok(Value::Tuple(items_of_text(alloc, chars)?))
+    let items = items_of_text(alloc, chars)?;
+    made_tuple(items).map_err(Refusal::Trouble)
 }
 
 fn tuple_of_range(alloc: Global, start: i64, stop: i64, step: i64) -> Result<Value, Refusal>
@@ -63,16 +61,11 @@ fn tuple_of_range(alloc: Global, start: i64, stop: i64, step: i64) -> Result<Val
     Ok(Value::Tuple(items_of_range(alloc, start, stop, step, count)?))
 }
 
-fn tuple_of_items(alloc: Global, items: &[Value]) -> Result<Value, Refusal>
+fn tuple_of_items(items: &Tuple) -> Result<Value, Refusal>
     ensures { AnswersValue result (made (the_tuple items.now)) }
 {
-    let Some(_) = spend_items(items, MAX_WEIGHT - 1) else {
-        return Err(Refusal::Trouble(Trouble::TOO_LARGE));
-    };
-    if !all_nest_at_most(items, MAX_DEPTH - 1) {
-        return Err(Refusal::Trouble(Trouble::NESTED_TOO_DEEPLY));
-    }
-    Ok(Value::Tuple(copy_items(alloc, items)?))
+    let items = items.share()?;
+    made_tuple(items).map_err(Refusal::Trouble)
 }
 
 /// The items of a value, as a tuple.
@@ -81,7 +74,7 @@ fn gather(alloc: Global, x: &Value) -> Result<Value, Refusal>
 {
     match x {
         Value::Text(text) => tuple_of_text(alloc, text.chars()),
-        Value::Tuple(items) => tuple_of_items(alloc, items.as_slice()),
+        Value::Tuple(items) => tuple_of_items(items),
         Value::Range(start, stop, step) => tuple_of_range(alloc, *start, *stop, *step),
         _ => Err(Refusal::Trouble(Trouble::NOT_ITERABLE)),
     }
@@ -92,7 +85,7 @@ pub fn tuple(alloc: Global, args: &[Value]) -> Result<Value, Refusal>
     ensures { AnswersValue result (spec.tuple_of args.now) }
 {
     match args {
-        [] => Ok(Value::Tuple(Items::new(alloc))),
+        [] => Ok(Value::Tuple(SharedItems::new())),
         [x] => gather(alloc, x),
         _ => Err(Refusal::Trouble(Trouble::WRONG_COUNT)),
     }

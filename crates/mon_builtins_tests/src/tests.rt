@@ -1,9 +1,9 @@
 use mon_builtins::{Given, call_builtin};
 use mon_frames::Frames;
+use mon_shared::SharedItems;
 use mon_values::print::repr;
-use mon_values::text::Text;
+use mon_values::text::{Text, TextBuffer};
 use mon_values::value::Value;
-use sqlite_items::Items;
 use std::alloc::{AllocError, Global};
 use std::process::Abort;
 use std::test::Fail;
@@ -16,6 +16,7 @@ enum Sample {
     Text(&'static str),
     /// A text of so many `a`.
     Letters(u64),
+    Chars(&'static [char]),
     Pair(i64, i64),
     Range(i64, i64, i64),
     Gen(u32),
@@ -23,18 +24,18 @@ enum Sample {
 }
 
 fn letters(alloc: Global, count: u64) -> Result<Value, AllocError> {
-    let mut text = Text::new(alloc);
+    let mut text = TextBuffer::new(alloc);
     for _turn in 0..count {
         text.push('a')?;
     }
-    Ok(Value::Text(text))
+    Ok(Value::Text(text.into_text()?))
 }
 
 fn pair(alloc: Global, a: i64, b: i64) -> Result<Value, AllocError> {
-    let mut items = Items::new(alloc);
+    let mut items = Vec::new(alloc);
     items.push(Value::Int(a))?;
     items.push(Value::Int(b))?;
-    Ok(Value::Tuple(items))
+    Ok(Value::Tuple(SharedItems::from_vec(items)?))
 }
 
 fn build(alloc: Global, sample: &Sample) -> Result<Value, AllocError> {
@@ -44,6 +45,7 @@ fn build(alloc: Global, sample: &Sample) -> Result<Value, AllocError> {
         Sample::Int(n) => Ok(Value::Int(*n)),
         Sample::Text(ascii) => Ok(Value::Text(Text::from_ascii(alloc, ascii)?)),
         Sample::Letters(count) => letters(alloc, *count),
+        Sample::Chars(chars) => Ok(Value::Text(Text::from_chars(alloc, chars)?)),
         Sample::Pair(a, b) => pair(alloc, *a, *b),
         Sample::Range(start, stop, step) => Ok(Value::Range(*start, *stop, *step)),
         Sample::Gen(k) => Ok(Value::Gen(*k)),
@@ -55,6 +57,7 @@ fn build(alloc: Global, sample: &Sample) -> Result<Value, AllocError> {
 enum Want {
     Value(&'static str),
     Printed(&'static str),
+    PrintedChars(&'static [char]),
     Raised(&'static str),
     Next(u32),
 }
@@ -71,6 +74,7 @@ fn meets(alloc: Global, given: Given, want: &Want) -> Result<bool, AllocError> {
     match (given, want) {
         (Given::Value(v), Want::Value(ascii)) => prints_as(alloc, &v, ascii),
         (Given::Printed(text), Want::Printed(ascii)) => is_text(alloc, &text, ascii),
+        (Given::Printed(text), Want::PrintedChars(chars)) => Ok(text.chars() == *chars),
         (Given::Raised(exc), Want::Raised(ascii)) => prints_as(alloc, &Value::Exc(exc), ascii),
         (Given::Next(number), Want::Next(wanted)) => Ok(number == *wanted),
         _ => Ok(false),
@@ -106,6 +110,11 @@ fn check(rt: &impl Abort, alloc: Global, rows: &[Row]) -> Result<(), AllocError>
 static VALUES: &[Row] = &[
     Row(1, &[Sample::Range(0, 10, 3)], Want::Value("4")),
     Row(1, &[Sample::Letters(3)], Want::Value("3")),
+    Row(
+        1,
+        &[Sample::Chars(&['\u{e9}', '\u{6f22}'])],
+        Want::Value("2"),
+    ),
     Row(1, &[Sample::Pair(1, 2)], Want::Value("2")),
     Row(2, &[Sample::Int(4)], Want::Value("range(0, 4)")),
     Row(
@@ -201,6 +210,11 @@ static EXCEPTIONS: &[Row] = &[
         Want::Raised("OverflowError('integer out of range')"),
     ),
     Row(
+        4,
+        &[Sample::Chars(&['\u{663}'])],
+        Want::Raised("ValueError('invalid literal')"),
+    ),
+    Row(
         5,
         &[Sample::Int(i64::MIN)],
         Want::Raised("OverflowError('integer out of range')"),
@@ -249,6 +263,16 @@ static OTHERS: &[Row] = &[
         0,
         &[Sample::Text("a"), Sample::Int(1), Sample::None],
         Want::Printed("a 1 None"),
+    ),
+    Row(
+        0,
+        &[Sample::Chars(&['\u{e9}']), Sample::Text("a")],
+        Want::PrintedChars(&['\u{e9}', ' ', 'a']),
+    ),
+    Row(
+        0,
+        &[Sample::Chars(&['\u{6f22}'])],
+        Want::PrintedChars(&['\u{6f22}']),
     ),
     Row(9, &[Sample::Gen(7)], Want::Next(7)),
     Row(10, &[Sample::Range(5, 0, -4)], Want::Value("<iterator 0>")),

@@ -3,6 +3,7 @@
 
 mod laws;
 mod operator;
+mod own;
 mod program;
 
 pub use laws::handlers_keep_no_yielded_value;

@@ -1,12 +1,14 @@
 //! A program, with all that is recorded at its locations.
 
-ghost use Rattle.std.specs.Prelude.{◌≡◌, ◌+◌, ◌<◌, ◌≤◌, length, slice_get};
+ghost use Rattle.std.specs.Prelude.{◌≡◌, ◌+◌, ◌<◌, ◌≤◌, length, slice_get, IfOk};
 ghost use Rattle.std.specs.Option.{option_copied};
 ghost use Rattle.mon_code.specs.Programs as spec;
 
+use crate::own::{own_codes, own_constants, own_texts};
 use mon_values::text::Text;
 use mon_values::value::Value;
 use sqlite_items::Items;
+use std::alloc::{AllocError, Global};
 use std::marker::Model;
 
 /// Where an exception goes, and how much is left then below it: so many values on the operand stack, and so many
@@ -114,6 +116,18 @@ impl Program {
             codes,
             bases,
         }
+    }
+
+    /// The same program, of which nothing is shared, so that another thread may copy its constants at no cost to this one.
+    pub fn own(&self, alloc: Global) -> Result<Program, AllocError>
+        ensures { IfOk result (λ copy. copy ≡ self.now) }
+    {
+        Ok(Program {
+            names: own_texts(alloc, self.names.as_slice())?,
+            constants: own_constants(alloc, self.constants.as_slice())?,
+            codes: own_codes(alloc, self.codes.as_slice())?,
+            bases: Items::from_slice(alloc, self.bases.as_slice())?,
+        })
     }
 
     /// The number of locations of all codes together.

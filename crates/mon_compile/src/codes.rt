@@ -89,20 +89,16 @@ fn constants(alloc: Global, code: &[Instruction]) -> Result<Items<Value>, AllocE
 {
     let mut constants = Items::new(alloc);
     for instruction in code {
-        add_constant(alloc, &mut constants, &instruction.argument)?;
+        add_constant(&mut constants, &instruction.argument)?;
     }
     Ok(constants)
 }
 
-fn add_constant(
-    alloc: Global,
-    constants: &mut Items<Value>,
-    argument: &Argument,
-) -> Result<(), AllocError>
+fn add_constant(constants: &mut Items<Value>, argument: &Argument) -> Result<(), AllocError>
     ensures { OnOk result (constants.new ≡ constants.old ++ spec.constants_in argument.now) }
 {
     match argument {
-        Argument::Constant(value) => constants.push(value.copy(alloc)?),
+        Argument::Constant(value) => constants.push(value.copy()?),
         _ => Ok(()),
     }
 }

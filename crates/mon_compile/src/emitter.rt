@@ -15,6 +15,7 @@ use crate::scope::{copy, is_local, number_of_local};
 use crate::settle::settle;
 use crate::surroundings::more;
 use mon_events::Op;
+use mon_shared::SharedItems;
 use mon_trees::Text;
 use mon_values::value::Value;
 use sqlite_items::Items;
@@ -128,7 +129,7 @@ impl Emitter<'_> {
     pub fn put_empty(&mut self, spot: Spot) -> Result<(), AllocError>
         ensures { OnOk result (self.new ≡ emitted self.old (scheme.constant_code (values.Tuple []) spot)) }
     {
-        let value = Value::Tuple(Items::new(self.alloc));
+        let value = Value::Tuple(SharedItems::new());
         self.put_constant(spot, value)
     }
 

@@ -11,9 +11,10 @@ use crate::fault::CompileFault;
 use crate::function::function_code;
 use crate::tree_fault::tree_fault;
 use mon_code::{Code, ModuleConstant, Program};
+use mon_shared::SharedItems;
 use mon_trees::tree::{Constant, Function, Module, ModuleItem};
 use mon_values::text::Text;
-use mon_values::value::Value;
+use mon_values::value::{Tuple, Value};
 use sqlite_items::Items;
 use std::alloc::{AllocError, Global};
 
@@ -135,18 +136,18 @@ fn value_of(alloc: Global, constant: &Constant) -> Result<Value, AllocError>
         Constant::Integer(n) => Ok(Value::Int(*n)),
         Constant::Text(characters) => Ok(Value::Text(text(alloc, characters)?)),
         Constant::Single(single) => Ok(single_value(*single)),
-        Constant::Empty => Ok(Value::Tuple(Items::new(alloc))),
+        Constant::Empty => Ok(Value::Tuple(SharedItems::new())),
         Constant::Tuple(parts) => Ok(Value::Tuple(values_of(alloc, parts.as_slice())?)),
     }
 }
 
 #[cycle(value_of)]
-fn values_of(alloc: Global, constants: &[Constant]) -> Result<Items<Value>, AllocError>
+fn values_of(alloc: Global, constants: &[Constant]) -> Result<Tuple, AllocError>
     ensures { IfOk result (λ values. values ≡ map spec.constant_value constants.now) }
 {
-    let mut values = Items::new(alloc);
+    let mut values = Vec::new(alloc);
     for constant in constants {
         values.push(value_of(alloc, constant)?)?;
     }
-    Ok(values)
+    SharedItems::from_vec(values)
 }

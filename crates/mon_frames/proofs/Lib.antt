@@ -2,3 +2,4 @@ pub mod Lists
 pub mod Tops
 pub mod Ranges
 pub mod Taking
+pub mod Counting

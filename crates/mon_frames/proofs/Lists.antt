@@ -1,9 +1,9 @@
 -- Lists by their last item, and lists that are seen from their end.
-use Rattle.std.proofs.Common.{add-one, ◌≡◌, ℕ, zero, suc, ◌+◌, ◌-◌, ◌<◌, List, [], ◌∷◌, ◌++◌, length, take, drop, get_or, reverse, refl, sym, ap, ◌∙◌, arith, length-append, length-drop}
+use Rattle.std.proofs.Common.{add-one, ◌≡◌, ℕ, zero, suc, ◌+◌, ◌-◌, ◌<◌, ◌≤◌, List, [], ◌∷◌, ◌++◌, length, take, drop, get_or, reverse, refl, sym, ap, ◌∙◌, arith, length-append, length-drop}
 use Rattle.std.specs.Prelude.{slice_get, slice_set, Some, None}
-use Rattle.std.proofs.lemmas.List.{reverse-append, length-reverse, take-append-drop, drop_more}
+use Rattle.std.proofs.lemmas.List.{reverse-append, reverse-reverse, length-reverse, length-take-le, take-take, take-append-drop, drop_more}
 use Rattle.std.proofs.lemmas.Option.{slice_get_within, get_or_from_slice_get}
-use Rattle.std.proofs.Math.Seq.{drop-append_seam, drop-nil}
+use Rattle.std.proofs.Math.Seq.{take-append_seam, drop-append_seam, drop-nil}
 use Rattle.mon_frames.specs.Items.{lowest}
 
 pub record Ends {A : Type 0} (xs : List A) : Type 0 where
@@ -47,6 +47,29 @@ cut_reversed xs n =
     let at : length (reverse xs) - n ≡ length (reverse (drop n xs)) = omega (arith, length-reverse xs, length-reverse (drop n xs), length-drop n xs) in
     sym (ap (λ k. drop k (reverse xs)) at ∙ ap (λ l. drop (length (reverse (drop n xs))) l) split ∙ drop-append_seam (reverse (drop n xs)) (reverse (take n xs)))
 
+-- a list that is cut in two where it is seen from its end: what stood behind is the topmost, and the rest is left
+module _ {A : Type 0} (xs : List A) (n count : ℕ) (cut : n + count ≡ length xs) where
+  split : reverse xs ≡ reverse (drop n xs) ++ reverse (take n xs)
+  split = ap (λ l. reverse l) (sym (take-append-drop n xs)) ∙ reverse-append (take n xs) (drop n xs)
+
+  above : count ≡ length (reverse (drop n xs))
+  above = omega (arith, cut, length-reverse (drop n xs), length-drop n xs)
+
+  pub top_reversed : drop n xs ≡ reverse (take count (reverse xs))
+  top_reversed = sym (ap (λ k. reverse (take k (reverse xs))) above ∙ ap (λ l. reverse (take (length (reverse (drop n xs))) l)) split ∙ ap (λ l. reverse l) (take-append_seam (reverse (drop n xs)) (reverse (take n xs))) ∙ reverse-reverse (drop n xs))
+
+  pub left_reversed : reverse (take n xs) ≡ drop count (reverse xs)
+  left_reversed = sym (ap (λ k. drop k (reverse xs)) above ∙ ap (λ l. drop (length (reverse (drop n xs))) l) split ∙ drop-append_seam (reverse (drop n xs)) (reverse (take n xs)))
+
+-- the topmost two are replaced by one
+pub two_replaced : {A : Type 0} (xs first second later : List A) (m n : ℕ) (x : A) → m ≡ length xs → 2 ≤ length xs → first ≡ take (m - 1) xs → n ≡ length first → second ≡ take (n - 1) first → later ≡ second ++ x ∷ [] → reverse later ≡ x ∷ drop 2 (reverse xs)
+two_replaced xs first second later m n x p h f q s l =
+    let shorter : length first ≡ length xs - 1 = ap length f ∙ length-take-le (m - 1) xs (omega arith) ∙ ap (λ k. k - 1) p in
+    let at : length first - 1 ≡ length xs - 2 = omega arith in
+    let one : first ≡ take (length xs - 1) xs = f ∙ ap (λ k. take (k - 1) xs) p in
+    let two : second ≡ take (length xs - 2) xs = s ∙ ap (λ k. take (k - 1) first) q ∙ ap (λ k. take k first) at ∙ ap (λ l. take (length xs - 2) l) one ∙ take-take (length xs - 2) (length xs - 1) xs (omega arith) in
+    ap (λ l. reverse l) (l ∙ ap (λ b. b ++ x ∷ []) two) ∙ reverse-append (take (length xs - 2) xs) (x ∷ []) ∙ ap (λ r. x ∷ r) (left_reversed xs (length xs - 2) 2 (omega arith))
+
 -- what is left of a list from a place on
 pub left_none : {A : Type 0} (xs : List A) (i : ℕ) → slice_get xs i ≡ None → drop i xs ≡ []
 left_none [] i e = drop-nil i
@@ -64,19 +87,11 @@ set_same (y ∷ ys) (suc i) x e = ap (λ l. y ∷ l) (set_same ys i x e)
 apart : {A : Type 0} (x : A) (rest : List A) → [] ≡ x ∷ rest → ⊥
 apart x rest e = cc
 
-take_suc : {A : Type 0} (xs : List A) (n : ℕ) (x : A) (rest : List A) → drop n xs ≡ x ∷ rest → take (suc n) xs ≡ take n xs ++ x ∷ []
-take_suc [] n x rest e = absurd (apart x rest (sym (drop-nil n) ∙ e))
-take_suc (y ∷ ys) zero x rest e = let same : y ≡ x = cc in ap (λ z. z ∷ []) same
-take_suc (y ∷ ys) (suc n) x rest e = ap (λ l. y ∷ l) (take_suc ys n x rest e)
-
 drop_suc : {A : Type 0} (xs : List A) (n : ℕ) (x : A) (rest : List A) → drop n xs ≡ x ∷ rest → drop (suc n) xs ≡ rest
 drop_suc [] n x rest e = absurd (apart x rest (sym (drop-nil n) ∙ e))
 drop_suc (y ∷ ys) zero x rest e = cc
 drop_suc (y ∷ ys) (suc n) x rest e = drop_suc ys n x rest e
 
--- what is taken from the front, and what is left, when one more is taken
-pub take_one_more : {A : Type 0} (xs : List A) (n : ℕ) (x : A) (rest : List A) → drop n xs ≡ x ∷ rest → take (n + 1) xs ≡ take n xs ++ x ∷ []
-take_one_more xs n x rest e = ap (λ m. take m xs) (add-one n) ∙ take_suc xs n x rest e
-
+-- what is left when one more is taken
 pub drop_one_more : {A : Type 0} (xs : List A) (n : ℕ) (x : A) (rest : List A) → drop n xs ≡ x ∷ rest → drop (n + 1) xs ≡ rest
 drop_one_more xs n x rest e = ap (λ m. drop m xs) (add-one n) ∙ drop_suc xs n x rest e

@@ -6,7 +6,6 @@ use Rattle.mon_frames.specs.declared.fault.FrameFault.{FrameFault}
 use Rattle.mon_frames.specs.declared.fault.FrameFault.TheVariants as frame
 use Rattle.mon_frames.specs.declared.fault.IterFault.{IterFault}
 use Rattle.mon_frames.specs.declared.fault.IterFault.TheVariants as iter
-use Rattle.mon_frames.specs.Items.{items_of, or_none}
 use Rattle.mon_frames.specs.Views.{FramesView}
 
 -- the frames that are due, or their fault
@@ -36,7 +35,7 @@ GivesFirst (Ok None) old new = (old ≡ []) × (new ≡ [])
 GivesFirst (Ok (Some x)) old new = old ≡ x ∷ new
 GivesFirst (Err e) old new = new ≡ old
 
--- a new iterator over the items of a value
-abbrev pub Adds : {E : Type 0} → Result Value E → Value → FramesView → FramesView → Type 0
-Adds (Ok x) v old new = (x ≡ Iter (length old.iterators)) × (new ≡ record old { iterators = old.iterators ++ or_none (items_of v) ∷ [] })
-Adds (Err e) v old new = new ≡ old
+-- a new iterator over these items
+abbrev pub Adds : {E : Type 0} → Result Value E → List Value → FramesView → FramesView → Type 0
+Adds (Ok x) items old new = (x ≡ Iter (length old.iterators)) × (new ≡ record old { iterators = old.iterators ++ items ∷ [] })
+Adds (Err e) items old new = new ≡ old

@@ -5,8 +5,7 @@ ghost use Rattle.mon_frames.specs.Calls.{called};
 
 use crate::handling::Handling;
 use mon_code::Code;
-use mon_values::value::{Tuple, Value};
-use sqlite_items::Items;
+use mon_values::value::Value;
 use std::alloc::{AllocError, Global};
 use std::marker::Model;
 
@@ -79,20 +78,15 @@ impl Operands {
     }
 
     /// Takes the topmost values off, so many; the lowest of them comes first.
-    pub fn take_top(&mut self, alloc: Global, count: usize) -> Result<Tuple, AllocError>
+    pub fn take_top(&mut self, count: usize) -> Result<Vec<Value>, AllocError>
         requires { count ≤ length self.old }
-        ensures taken { IfOk result (λ taken. taken ≡ reverse (take count self.old)) }
+        ensures taken { IfOk result (λ taken. taken.items ≡ reverse (take count self.old)) }
         ensures left { OnOk result (self.new ≡ drop count self.old) }
+        ensures err { OnErr result (self.new ≡ self.old) }
     {
-        let mut taken = Vec::new(alloc);
-        for _turn in 0..count {
-            let Some(value) = self.pop() else {
-                unreachable!()
-            };
-            taken.push(value)?;
-        }
-        taken.reverse();
-        Ok(Items::from_vec(taken))
+        let left = self.items.len() - count;
+        let taken = self.items.split_off(left)?;
+        Ok(taken)
     }
 
     /// Takes values off the top until no more than so many are left.
@@ -130,6 +124,15 @@ impl Locals {
         Locals {
             items: Vec::new(alloc),
         }
+    }
+
+    /// No locals, with room for so many.
+    pub fn with_capacity(alloc: Global, count: usize) -> Result<Locals, AllocError>
+        ensures { IfOk result (λ locals. locals ≡ []) }
+    {
+        Ok(Locals {
+            items: Vec::with_capacity(alloc, count)?,
+        })
     }
 
     /// One more local, behind the others.
@@ -180,15 +183,15 @@ pub struct Frame {
 }
 
 impl Frame {
-    /// The frame of a call of a code, which has this number in its program: the parameters are bound to the arguments, and
-    /// the other locals are not bound.
+    /// The frame of a call of a code, which has this number in its program: the arguments become the parameters, and the
+    /// other locals are not bound.
     pub fn called(
         alloc: Global,
         code: &Code,
         number: u16,
-        args: &[Value],
+        args: Vec<Value>,
     ) -> Result<Frame, AllocError>
-        ensures { IfOk result (λ frame. frame ≡ called code.now number args.now) }
+        ensures { IfOk result (λ frame. frame ≡ called code.now number args.items) }
     {
         let locals = locals_of(alloc, code.locals.len(), args)?;
         let stack = Operands::with_capacity(alloc, 8)?;
@@ -204,20 +207,21 @@ impl Frame {
 }
 
 // The locals of a call: the arguments, and the others unbound.
-fn locals_of(alloc: Global, count: usize, args: &[Value]) -> Result<Locals, AllocError>
-    ensures { IfOk result (λ locals. locals ≡ map Some args.now ++ replicate (count - length args.now) None) }
+fn locals_of(alloc: Global, count: usize, args: Vec<Value>) -> Result<Locals, AllocError>
+    ensures { IfOk result (λ locals. locals ≡ map Some args.items ++ replicate (count - length args.items) None) }
 {
-    let mut locals = Locals::new(alloc);
-    push_bound(alloc, &mut locals, args)?;
-    push_unbound(&mut locals, count.saturating_sub(args.len()))?;
+    let unbound = count.saturating_sub(args.len());
+    let mut locals = Locals::with_capacity(alloc, count)?;
+    push_bound(&mut locals, args)?;
+    push_unbound(&mut locals, unbound)?;
     Ok(locals)
 }
 
-fn push_bound(alloc: Global, locals: &mut Locals, args: &[Value]) -> Result<(), AllocError>
-    ensures { OnOk result (locals.new ≡ locals.old ++ map Some args.now) }
+fn push_bound(locals: &mut Locals, args: Vec<Value>) -> Result<(), AllocError>
+    ensures { OnOk result (locals.new ≡ locals.old ++ map Some args.items) }
 {
     for arg in args {
-        locals.push(Some(arg.copy(alloc)?))?;
+        locals.push(Some(arg))?;
     }
     Ok(())
 }

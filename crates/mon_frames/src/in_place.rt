@@ -6,24 +6,6 @@ ghost use Rattle.mon_values.specs.declared.value.Value as item;
 use crate::frame::{Locals, Operands};
 use mon_values::value::Value;
 
-/// A copy of a value that has no parts, which takes no memory.
-pub fn plain_copy(v: &Value) -> Option<Value>
-    ensures { MatchOption result (Unit {0}) (λ copy. copy ≡ v.now) }
-{
-    match v {
-        Value::None => Some(Value::None),
-        Value::Bool(b) => Some(Value::Bool(*b)),
-        Value::Int(n) => Some(Value::Int(*n)),
-        Value::Function(k) => Some(Value::Function(*k)),
-        Value::Builtin(k) => Some(Value::Builtin(*k)),
-        Value::ExcClass(k) => Some(Value::ExcClass(*k)),
-        Value::Gen(k) => Some(Value::Gen(*k)),
-        Value::Iter(k) => Some(Value::Iter(*k)),
-        Value::Range(start, end, step) => Some(Value::Range(*start, *end, *step)),
-        _ => None,
-    }
-}
-
 impl Operands {
     /// Puts a value on top where there is room for it; whether there was.
     pub fn push_within(&mut self, value: Value) -> bool
@@ -70,12 +52,12 @@ impl Operands {
 }
 
 impl Locals {
-    /// A copy of the value of a local, where it is bound to one that has no parts.
-    pub fn plain_at(&self, at: usize) -> Option<Value>
+    /// A copy of the value of a local, where it is bound to one and the count of that one's owners is not full.
+    pub fn copy_at(&self, at: usize) -> Option<Value>
         ensures { MatchOption result (Unit {0}) (λ value. slice_get self.now at ≡ Some (Some value)) }
     {
         match self.items.get(at) {
-            Some(Some(value)) => plain_copy(value),
+            Some(Some(value)) => value.copy().ok(),
             _ => None,
         }
     }

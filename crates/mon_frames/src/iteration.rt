@@ -1,4 +1,4 @@
-ghost use Rattle.std.specs.Prelude.{◌≡◌, ◌-◌, ◌<◌, ◌^◌, length, map, slice_get, IfOk, OnSome};
+ghost use Rattle.std.specs.Prelude.{◌≡◌, ◌<◌, Some, length, map, slice_get, IfOk};
 ghost use Rattle.mon_values.specs.Ranges.{range_length};
 ghost use Rattle.mon_frames.specs.Items.{items_of, count_of, range_items, one_char, or_none};
 ghost use Rattle.mon_frames.specs.Answers.{GivesFirst};
@@ -12,13 +12,16 @@ use std::marker::Model;
 /// An iterator over the items of a text, a tuple or a range, which contracts see as the list of what it has yet to give.
 #[derive(Debug, Drop)]
 pub struct Iteration {
+    // None once its end was reached
     over: Value,
     // how many items it gave
     place: u64,
+    // how many items `over` has
+    count: u64,
 }
 
 impl Model for Iteration {
-    ghost use Rattle.std.specs.Prelude.{List, drop};
+    ghost use Rattle.std.specs.Prelude.{◌≡◌, List, drop, length};
     ghost use Rattle.mon_values.specs.declared.value.Value.{Value as Item};
     ghost use Rattle.mon_values.specs.contracts.value.Value as value;
     ghost use Rattle.mon_frames.specs.Items.{items_of, or_none};
@@ -29,30 +32,37 @@ impl Model for Iteration {
     ghost coded = { coded_list value.the_row.coded };
 
     ghost view = { λ i. drop i.place (or_none (items_of i.over)) };
+
+    ghost invariant = { λ i. i.count ≡ length (or_none (items_of i.over)) };
 }
 
 impl Iteration {
-    /// An iterator over the items of a value; of one without items, over nothing.
-    pub fn over(alloc: Global, v: &Value) -> Result<Iteration, AllocError>
-        ensures { IfOk result (λ left. left ≡ or_none (items_of v.now)) }
+    /// An iterator over the items of a value, which it takes; none of a value without items.
+    #[tactic(auto, using(crate::proofs::Counting::counted_some, crate::proofs::Counting::counted_none, crate::proofs::Counting::counted_length))]
+    pub fn over(v: Value) -> Option<Iteration>
+        ensures { result ≡ items_of v }
     {
-        Ok(Iteration {
-            over: v.copy(alloc)?,
+        let count = item_count(&v)?;
+        Some(Iteration {
+            over: v,
             place: 0,
+            count,
         })
     }
 
-    /// The next item, if one is left.
+    /// The next item, if one is left. Where none is, the value that was gone over is dropped.
+    #[tactic(auto, using(crate::proofs::Counting::none_of_none, crate::proofs::Counting::none_dropped, crate::proofs::Lists::left_some))]
     pub fn next(&mut self, alloc: Global) -> Result<Option<Value>, AllocError>
         ensures { GivesFirst result self.old self.new }
     {
-        match item_at(alloc, &self.over, self.place)? {
-            None => Ok(None),
-            Some(item) => {
-                self.place += 1;
-                Ok(Some(item))
-            }
+        if self.place >= self.count {
+            self.over = Value::None;
+            self.count = 0;
+            return Ok(None);
         }
+        let item = item_within(alloc, &self.over, self.place)?;
+        self.place += 1;
+        Ok(Some(item))
     }
 }
 
@@ -75,50 +85,52 @@ fn integer_count(start: i64, stop: i64, step: i64) -> u64
 }
 
 /// The item of a value at a place, from 0, if there is one.
+#[tactic(auto, using(crate::proofs::Counting::counted_length, crate::proofs::Counting::none_past, crate::proofs::Counting::none_uncounted))]
 pub fn item_at(alloc: Global, v: &Value, place: u64) -> Result<Option<Value>, AllocError>
-    ensures value { IfOk result (λ item. item ≡ slice_get (or_none (items_of v.now)) place) }
-    ensures last { IfOk result (λ item. OnSome item (place < 2 ^ 64 - 1)) }
+    ensures { IfOk result (λ item. item ≡ slice_get (or_none (items_of v.now)) place) }
+{
+    let Some(count) = item_count(v) else {
+        return Ok(None);
+    };
+    if place >= count {
+        return Ok(None);
+    }
+    Ok(Some(item_within(alloc, v, place)?))
+}
+
+/// The item of a value at a place where it has one.
+fn item_within(alloc: Global, v: &Value, place: u64) -> Result<Value, AllocError>
+    requires { place < length (or_none (items_of v.now)) }
+    ensures { IfOk result (λ item. Some item ≡ slice_get (or_none (items_of v.now)) place) }
 {
     match v {
-        Value::Text(text) => char_at(alloc, text.chars(), place),
-        Value::Tuple(items) => copy_at(alloc, items.as_slice(), place),
+        Value::Text(text) => char_at(alloc, text.chars(), place as usize),
+        Value::Tuple(items) => copy_at(items.as_slice(), place as usize),
         Value::Range(start, stop, step) => Ok(integer_at(*start, *stop, *step, place)),
-        _ => Ok(None),
+        _ => unreachable!(),
     }
 }
 
-fn char_at(alloc: Global, chars: &[char], place: u64) -> Result<Option<Value>, AllocError>
-    ensures value { IfOk result (λ item. item ≡ slice_get (map one_char chars.now) place) }
-    ensures last { IfOk result (λ item. OnSome item (place < 2 ^ 64 - 1)) }
+fn char_at(alloc: Global, chars: &[char], place: usize) -> Result<Value, AllocError>
+    requires { place < length chars.now }
+    ensures { IfOk result (λ item. Some item ≡ slice_get (map one_char chars.now) place) }
 {
-    match chars.get(place as usize) {
-        None => Ok(None),
-        Some(c) => {
-            let mut text = Text::new(alloc);
-            text.push(*c)?;
-            Ok(Some(Value::Text(text)))
-        }
+    Ok(Value::Text(Text::from_chars(alloc, &[chars[place]])?))
+}
+
+fn copy_at(items: &[Value], place: usize) -> Result<Value, AllocError>
+    requires { place < length items.now }
+    ensures { IfOk result (λ item. Some item ≡ slice_get items.now place) }
+{
+    match items.get(place) {
+        None => unreachable!(),
+        Some(item) => Ok(item.copy()?),
     }
 }
 
-fn copy_at(alloc: Global, items: &[Value], place: u64) -> Result<Option<Value>, AllocError>
-    ensures value { IfOk result (λ item. item ≡ slice_get items.now place) }
-    ensures last { IfOk result (λ item. OnSome item (place < 2 ^ 64 - 1)) }
+fn integer_at(start: i64, stop: i64, step: i64, place: u64) -> Value
+    requires { place < length (range_items start step 0 (range_length start stop step)) }
+    ensures { Some result ≡ slice_get (range_items start step 0 (range_length start stop step)) place }
 {
-    match items.get(place as usize) {
-        None => Ok(None),
-        Some(item) => Ok(Some(item.copy(alloc)?)),
-    }
-}
-
-#[tactic(auto, using(crate::proofs::Ranges::item_within, crate::proofs::Ranges::item_past))]
-fn integer_at(start: i64, stop: i64, step: i64, place: u64) -> Option<Value>
-    ensures value { result ≡ slice_get (range_items start step 0 (range_length start stop step)) place }
-    ensures last { OnSome result (place < 2 ^ 64 - 1) }
-{
-    if place < range_len(start, stop, step) {
-        Some(Value::Int(range_item(start, stop, step, place)))
-    } else {
-        None
-    }
+    Value::Int(range_item(start, stop, step, place))
 }

@@ -13,6 +13,5 @@ pub use call::{By, Call, Generator, Origin};
 pub use fault::{FrameFault, IterFault};
 pub use frame::{Frame, Locals, Operands};
 pub use handling::Handling;
-pub use in_place::plain_copy;
 pub use iteration::{Iteration, item_at, item_count};
 pub use stack::{Frames, MAX_FRAMES, handler_of};

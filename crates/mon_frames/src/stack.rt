@@ -114,10 +114,10 @@ impl Frames {
         &mut self,
         program: &Program,
         function: u16,
-        args: &[Value],
+        args: Vec<Value>,
     ) -> Result<(), FrameFault>
-        requires { spec.Takes program.now function args.now }
-        ensures { AnswersPush result (spec.pushed self.old program.now function args.now) self.old self.new }
+        requires { spec.Takes program.now function args.items }
+        ensures { AnswersPush result (spec.pushed self.old program.now function args.items) self.old self.new }
     {
         if self.calls.len() >= MAX_FRAMES {
             return Err(FrameFault::Full);
@@ -129,9 +129,9 @@ impl Frames {
     }
 
     /// Pushes the frame of a plain call of a code with this number.
-    pub fn enter(&mut self, code: &Code, number: u16, args: &[Value]) -> Result<(), AllocError>
+    pub fn enter(&mut self, code: &Code, number: u16, args: Vec<Value>) -> Result<(), AllocError>
         requires { length self.old.calls < spec.most_frames }
-        ensures ok { OnOk result (self.new ≡ spec.on_top self.old (called code.now number args.now) Origin.Plain) }
+        ensures ok { OnOk result (self.new ≡ spec.on_top self.old (called code.now number args.items) Origin.Plain) }
         ensures err { OnErr result (self.new ≡ self.old) }
     {
         let frame = Frame::called(self.alloc, code, number, args)?;
@@ -158,27 +158,26 @@ impl Frames {
     }
 
     /// What a value is gone over with: a new iterator of a text, a tuple or a range; a generator or an iterator itself.
-    pub fn iterate(&mut self, v: &Value) -> Result<Value, IterFault>
-        ensures { AnswersIter result (iterated self.old v.now) self.old self.new }
+    pub fn iterate(&mut self, v: Value) -> Result<Value, IterFault>
+        ensures { AnswersIter result (iterated self.old v) self.old self.new }
     {
         match v {
-            Value::Text(_) => Ok(self.add_iterator(v)?),
-            Value::Tuple(_) => Ok(self.add_iterator(v)?),
-            Value::Range(_, _, _) => Ok(self.add_iterator(v)?),
-            Value::Gen(number) => Ok(Value::Gen(*number)),
-            Value::Iter(number) => Ok(Value::Iter(*number)),
-            _ => Err(IterFault::Trouble(Trouble::NOT_ITERABLE)),
+            Value::Gen(number) => Ok(Value::Gen(number)),
+            Value::Iter(number) => Ok(Value::Iter(number)),
+            over => match Iteration::over(over) {
+                None => Err(IterFault::Trouble(Trouble::NOT_ITERABLE)),
+                Some(iteration) => Ok(self.add_iterator(iteration)?),
+            },
         }
     }
 
-    /// A new iterator over the items of a value.
-    fn add_iterator(&mut self, v: &Value) -> Result<Value, AllocError>
-        ensures { Adds result v.now self.old self.new }
+    fn add_iterator(&mut self, iteration: Iteration) -> Result<Value, AllocError>
+        ensures { Adds result iteration self.old self.new }
     {
         let Ok(number) = u32::try_from(self.iterators.len()) else {
             return Err(AllocError);
         };
-        self.iterators.push(Iteration::over(self.alloc, v)?)?;
+        self.iterators.push(iteration)?;
         Ok(Value::Iter(number))
     }
 

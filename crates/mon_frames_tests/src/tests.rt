@@ -7,6 +7,7 @@ ghost use Rattle.mon_frames.specs.Views.{Takes};
 
 use mon_frames::{FrameFault, Frames, Handling, Operands, Origin, handler_of, item_at, item_count};
 use mon_code::{Code, Handler, Location, Program};
+use mon_shared::SharedItems;
 use mon_values::print::repr;
 use mon_values::text::Text;
 use mon_values::value::{Exc, Value};
@@ -103,6 +104,21 @@ fn program(alloc: Global) -> Result<Program, AllocError>
     Ok(Program::new(names, named, codes, bases))
 }
 
+fn only(alloc: Global, v: Value) -> Result<Vec<Value>, AllocError>
+    ensures { IfOk result (λ args. args.items ≡ v ∷ []) }
+{
+    let mut args = Vec::new(alloc);
+    args.push(v)?;
+    Ok(args)
+}
+
+fn is_char(item: &Option<Value>, c: char) -> bool {
+    match item {
+        Some(Value::Text(text)) => text.chars() == [c].as_slice(),
+        _ => false,
+    }
+}
+
 fn prints_as(alloc: Global, v: &Value, want: &str) -> Result<bool, AllocError> {
     Ok(repr(alloc, v, &[])?.chars() == Text::from_ascii(alloc, want)?.chars())
 }
@@ -124,7 +140,11 @@ fn a_call_is_pushed_and_popped(rt: HostRuntime) -> Result<(), Fail> {
     let alloc = rt.alloc();
     let program = program(alloc)?;
     let mut frames = Frames::new(alloc);
-    assert!(rt; frames.push_call(&program, 0, &[Value::Int(7)]).is_ok());
+    assert!(rt;
+        frames
+            .push_call(&program, 0, only(alloc, Value::Int(7))?)
+            .is_ok()
+    );
     assert!(rt; frames.depth() == 1 && has_locals(alloc, &frames, "7")?);
     if frames.depth() == 1 {
         assert!(rt; frames.origin() == Origin::Plain);
@@ -141,9 +161,13 @@ fn no_more_frames_than_a_thousand_stand(rt: HostRuntime) -> Result<(), Fail> {
     let program = program(alloc)?;
     let mut frames = Frames::new(alloc);
     for _turn in 0..1000 {
-        assert!(rt; frames.push_call(&program, 0, &[Value::None]).is_ok());
+        assert!(rt;
+            frames
+                .push_call(&program, 0, only(alloc, Value::None)?)
+                .is_ok()
+        );
     }
-    assert!(rt; frames.push_call(&program, 0, &[Value::None]) == Err(FrameFault::Full));
+    assert!(rt; frames.push_call(&program, 0, only(alloc, Value::None)?) == Err(FrameFault::Full));
     assert!(rt; frames.depth() == 1000);
     Ok(())
 }
@@ -163,7 +187,11 @@ fn the_innermost_frame_that_handles_an_exception_is_found(rt: HostRuntime) -> Re
     let program = program(alloc)?;
     let mut frames = Frames::new(alloc);
     assert!(rt; is_handled(frames.handled(), None));
-    assert!(rt; frames.push_call(&program, 0, &[Value::None]).is_ok());
+    assert!(rt;
+        frames
+            .push_call(&program, 0, only(alloc, Value::None)?)
+            .is_ok()
+    );
     if frames.depth() > 0 {
         let handling = &mut frames.top_mut().handling;
         handling.push(Exc {
@@ -175,7 +203,11 @@ fn the_innermost_frame_that_handles_an_exception_is_found(rt: HostRuntime) -> Re
             arg: None,
         })?;
     }
-    assert!(rt; frames.push_call(&program, 0, &[Value::None]).is_ok());
+    assert!(rt;
+        frames
+            .push_call(&program, 0, only(alloc, Value::None)?)
+            .is_ok()
+    );
     assert!(rt; is_handled(frames.handled(), Some(13)));
     Ok(())
 }
@@ -215,7 +247,7 @@ fn the_topmost_values_are_taken_in_order(rt: HostRuntime) -> Result<(), Fail> {
     stack.push(Value::Int(2))?;
     stack.push(Value::Int(3))?;
     if stack.len() >= 2 {
-        let taken = Value::Tuple(stack.take_top(alloc, 2)?);
+        let taken = Value::Tuple(SharedItems::from_vec(stack.take_top(2)?)?);
         assert!(rt; prints_as(alloc, &taken, "(2, 3)")?);
     }
     assert!(rt; stack.len() == 1 && matches!(stack.top(), Some(Value::Int(1))));
@@ -224,7 +256,7 @@ fn the_topmost_values_are_taken_in_order(rt: HostRuntime) -> Result<(), Fail> {
 
 /// Whether an iterator of a value gives values that print so, and then no more.
 fn gives(alloc: Global, frames: &mut Frames, v: &Value, want: &[&str]) -> Result<bool, AllocError> {
-    let Ok(Value::Iter(number)) = frames.iterate(v) else {
+    let Ok(Value::Iter(number)) = frames.iterate(v.copy()?) else {
         return Ok(false);
     };
     for text in want {
@@ -241,10 +273,10 @@ fn gives(alloc: Global, frames: &mut Frames, v: &Value, want: &[&str]) -> Result
 }
 
 fn pair(alloc: Global) -> Result<Value, AllocError> {
-    let mut items = Items::new(alloc);
+    let mut items = Vec::new(alloc);
     items.push(Value::Int(1))?;
     items.push(Value::None)?;
-    Ok(Value::Tuple(items))
+    Ok(Value::Tuple(SharedItems::from_vec(items)?))
 }
 
 #[test]
@@ -256,15 +288,17 @@ fn values_are_gone_over(rt: HostRuntime) -> Result<(), Fail> {
     assert!(rt; gives(alloc, &mut frames, &pair(alloc)?, &["1", "None"])?);
     let falling = Value::Range(5, -5, -4);
     assert!(rt; gives(alloc, &mut frames, &falling, &["5", "1", "-3"])?);
-    assert!(rt; frames.iterate(&Value::None).is_err() && frames.generator(0).is_none());
+    assert!(rt; frames.iterate(Value::None).is_err() && frames.generator(0).is_none());
     assert!(rt; item_count(&falling) == Some(3) && item_count(&Value::None).is_none());
     assert!(rt; matches!(item_at(alloc, &falling, 1)?, Some(Value::Int(1))));
+    let wide = Value::Text(Text::from_chars(alloc, &['\u{6f22}', '\u{e9}'])?);
+    assert!(rt; is_char(&item_at(alloc, &wide, 1)?, '\u{e9}') && item_count(&wide) == Some(2));
     Ok(())
 }
 
 #[test]
 fn handlers_are_as_recorded(rt: HostRuntime) -> Result<(), Fail> {
-    let program = program(rt.alloc())?;
+    let program = program(rt.alloc())?.own(rt.alloc())?;
     assert!(rt; handler_of(&program, 0, 1).map(|handler| handler.to) == Some(2));
     assert!(rt; handler_of(&program, 0, 0).is_none() && handler_of(&program, 0, 3).is_none());
     assert!(rt; handler_of(&program, 1, 1).is_none());

@@ -1,5 +1,7 @@
 -- What the execution of an instruction answers.
 use Rattle.std.specs.Prelude.{◌≡◌, ℕ, ◌<◌, List, [], ◌∷◌, Option, Some, None}
+use Rattle.std.specs.declared.vec.Vec.{Vec}
+use Rattle.std.specs.declared.alloc.Global.{Global}
 use Rattle.mon_values.specs.declared.value.Value.{Value}
 use Rattle.mon_frames.specs.Views.{FramesView, without_top}
 use Rattle.mon_frames.specs.declared.call.Origin.{Origin}
@@ -48,9 +50,9 @@ abbrev pub thrown : Exc → Done
 thrown e = record { ending = Ending.Raises e; printed = None; ancillary = Some Event.CRaise }
 
 -- the callee and the arguments of a call were taken, or nothing was
-abbrev pub TakesCall : ℕ → Option (Value × List Value) → Frame → Frame → Type 0
+abbrev pub TakesCall : ℕ → Option (Value × Vec Value Global) → Frame → Frame → Type 0
 TakesCall count None old new = (callee_in count old.stack ≡ None) × (new ≡ old)
-TakesCall count (Some (callee, args)) old new = (callee_in count old.stack ≡ Some callee) × (args ≡ args_in count old.stack) × (new ≡ with_stack old (below_in count old.stack))
+TakesCall count (Some (callee, args)) old new = (callee_in count old.stack ≡ Some callee) × (args.items ≡ args_in count old.stack) × (new ≡ with_stack old (below_in count old.stack))
 
 -- where an exception goes on that left a frame: in the frame that made the call, or nowhere
 abbrev pub goes_out_from : FramesView → List Call → Exc → State

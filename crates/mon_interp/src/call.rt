@@ -19,7 +19,7 @@ use mon_machine::Ending;
 use mon_values::exc::make_exc;
 use mon_values::fault::{ExcFault, Trouble};
 use mon_values::text::Text;
-use mon_values::value::{Exc, Tuple, Value};
+use mon_values::value::{Exc, Value};
 use std::alloc::{AllocError, Global};
 
 /// The builtins that are called by their names.
@@ -45,9 +45,9 @@ fn call_code(
     program: &Program,
     frames: &mut Frames,
     function: u16,
-    args: &[Value],
+    args: Vec<Value>,
 ) -> Result<Done, AllocError>
-    ensures { IfOk result (λ done. spec.calls_code program.now frames.old args.now function (slice_get program.now.codes function) ≡ frames_move frames.new done) }
+    ensures { IfOk result (λ done. spec.calls_code program.now frames.old args.items function (slice_get program.now.codes function) ≡ frames_move frames.new done) }
 {
     let Some(code) = program.code(function) else {
         return throw_trouble(alloc, Trouble::NOT_CALLABLE);
@@ -204,31 +204,27 @@ fn call_value(
     program: &Program,
     frames: &mut Frames,
     callee: &Value,
-    args: &[Value],
+    args: Vec<Value>,
 ) -> Result<Done, AllocError>
     requires { Stands frames.old.calls }
-    ensures { IfOk result (λ done. (f : FrameOf) → top_of frames.old.calls ≡ Some f → spec.calls program.now frames.old f args.now callee.now ≡ frames_move frames.new done) }
+    ensures { IfOk result (λ done. (f : FrameOf) → top_of frames.old.calls ≡ Some f → spec.calls program.now frames.old f args.items callee.now ≡ frames_move frames.new done) }
 {
     match callee {
         Value::Function(number) => call_code(alloc, program, frames, *number, args),
-        Value::Builtin(number) => call_numbered(alloc, program, frames, *number, args),
-        Value::ExcClass(class) => call_class(alloc, frames, *class, args),
+        Value::Builtin(number) => call_numbered(alloc, program, frames, *number, args.as_slice()),
+        Value::ExcClass(class) => call_class(alloc, frames, *class, args.as_slice()),
         _ => throw_trouble(alloc, Trouble::NOT_CALLABLE),
     }
 }
 
 // The callee of a call with so many arguments, and the arguments; nothing, where fewer values stand.
-fn take_call(
-    alloc: Global,
-    frame: &mut Frame,
-    count: usize,
-) -> Result<Option<(Value, Tuple)>, AllocError>
+fn take_call(frame: &mut Frame, count: usize) -> Result<Option<(Value, Vec<Value>)>, AllocError>
     ensures { IfOk result (λ taken. TakesCall count taken frame.old frame.new) }
 {
     if frame.stack.len() <= count {
         return Ok(None);
     }
-    let args = frame.stack.take_top(alloc, count)?;
+    let args = frame.stack.take_top(count)?;
     match frame.stack.pop() {
         None => unreachable!(),
         Some(callee) => Ok(Some((callee, args))),
@@ -245,8 +241,8 @@ pub fn call(
     requires { Stands frames.old.calls }
     ensures { IfOk result (λ done. (f : FrameOf) → top_of frames.old.calls ≡ Some f → spec.call program.now frames.old count f ≡ frames_move frames.new done) }
 {
-    match take_call(alloc, frames.top_mut(), count as usize)? {
+    match take_call(frames.top_mut(), count as usize)? {
         None => Ok(plain(Ending::Misses)),
-        Some((callee, args)) => call_value(alloc, program, frames, &callee, args.as_slice()),
+        Some((callee, args)) => call_value(alloc, program, frames, &callee, args),
     }
 }

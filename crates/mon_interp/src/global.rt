@@ -10,7 +10,7 @@ use mon_code::{ModuleConstant, Program, is_named, is_same};
 use mon_values::class::{builtin_name, class_name};
 use mon_values::text::Text;
 use mon_values::value::Value;
-use std::alloc::{AllocError, Global};
+use std::alloc::AllocError;
 
 /// The builtins that a global name may mean; the others are methods of generators.
 const GLOBAL_BUILTINS: u8 = 11;
@@ -57,15 +57,11 @@ fn class_named(name: &Text) -> Option<u8>
 }
 
 /// What a name means outside a function: what the module calls so, else a builtin, else a class of exceptions.
-pub fn global_value(
-    alloc: Global,
-    program: &Program,
-    name: &Text,
-) -> Result<Option<Value>, AllocError>
+pub fn global_value(program: &Program, name: &Text) -> Result<Option<Value>, AllocError>
     ensures { IfOk result (λ value. value ≡ spec.global_of program.now name.now) }
 {
     if let Some(value) = constant_named(program.constants.as_slice(), name) {
-        return Ok(Some(value.copy(alloc)?));
+        return Ok(Some(value.copy()?));
     }
     if let Some(number) = program.code_called(name) {
         return Ok(Some(Value::Function(number)));

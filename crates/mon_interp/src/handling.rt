@@ -45,7 +45,7 @@ pub fn raise_varargs(
     }
     match frames.handled() {
         None => raise(alloc, Trouble::NOTHING_TO_RERAISE),
-        Some(exc) => Ok(Ending::Reraises(exc.copy(alloc)?)),
+        Some(exc) => Ok(Ending::Reraises(exc.copy()?)),
     }
 }
 
@@ -71,7 +71,7 @@ pub fn push_exc_info(alloc: Global, frame: &mut Frame) -> Result<Ending, AllocEr
     match frame.stack.top() {
         None => Ok(Ending::Misses),
         Some(Value::Exc(exc)) => {
-            let exc = exc.copy(alloc)?;
+            let exc = exc.copy()?;
             frame.handling.push(exc)?;
             Ok(go_on(frame))
         }

@@ -35,8 +35,8 @@ fn hear(
                 code,
                 at: line,
                 dest: 0,
-                first: Cut::absent(alloc),
-                second: Cut::absent(alloc),
+                first: Cut::absent(),
+                second: Cut::absent(),
             })?;
         }
     }

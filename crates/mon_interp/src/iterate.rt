@@ -25,9 +25,9 @@ pub fn push_top(frames: &mut Frames, value: Value) -> Result<Ending, AllocError>
 }
 
 // Goes on with what a value is gone over with.
-fn iterate_over(alloc: Global, frames: &mut Frames, over: &Value) -> Result<Ending, AllocError>
+fn iterate_over(alloc: Global, frames: &mut Frames, over: Value) -> Result<Ending, AllocError>
     requires { Stands frames.old.calls }
-    ensures { IfOk result (λ ending. (f : FrameOf) → top_of frames.old.calls ≡ Some f → spec.iterates_over frames.old f over.now ≡ moved frames.new ending) }
+    ensures { IfOk result (λ ending. (f : FrameOf) → top_of frames.old.calls ≡ Some f → spec.iterates_over frames.old f over ≡ moved frames.new ending) }
 {
     match frames.iterate(over) {
         Ok(value) => push_top(frames, value),
@@ -44,7 +44,7 @@ pub fn get_iter(alloc: Global, frames: &mut Frames) -> Result<Ending, AllocError
 {
     match frames.top_mut().stack.pop() {
         None => Ok(Ending::Misses),
-        Some(over) => iterate_over(alloc, frames, &over),
+        Some(over) => iterate_over(alloc, frames, over),
     }
 }
 

@@ -9,17 +9,17 @@ use mon_frames::Frame;
 use mon_machine::Ending;
 use mon_values::truth::is_true;
 use mon_values::value::Value;
-use std::alloc::{AllocError, Global};
+use std::alloc::AllocError;
 
 /// `COPY` of the top.
-pub fn copy(alloc: Global, frame: &mut Frame) -> Result<Ending, AllocError>
+pub fn copy(frame: &mut Frame) -> Result<Ending, AllocError>
     requires { frame.old.index < 65536 }
     ensures { IfOk result (λ ending. spec.copy frame.old frame.old.stack ≡ record { frame = frame.new; ending = ending }) }
 {
     match frame.stack.top() {
         None => Ok(Ending::Misses),
         Some(value) => {
-            let value = value.copy(alloc)?;
+            let value = value.copy()?;
             push(frame, value)
         }
     }

@@ -15,17 +15,13 @@ use mon_values::value::Value;
 use std::alloc::{AllocError, Global};
 
 /// `LOAD_CONST`
-pub fn load_const(
-    alloc: Global,
-    frame: &mut Frame,
-    constant: Option<&Value>,
-) -> Result<Ending, AllocError>
+pub fn load_const(frame: &mut Frame, constant: Option<&Value>) -> Result<Ending, AllocError>
     requires { frame.old.index < 65536 }
     ensures { IfOk result (λ ending. spec.load_const frame.old (option_copied constant.entry) ≡ record { frame = frame.new; ending = ending }) }
 {
     match constant {
         None => Ok(Ending::Misses),
-        Some(value) => push(frame, value.copy(alloc)?),
+        Some(value) => push(frame, value.copy()?),
     }
 }
 
@@ -53,7 +49,7 @@ pub fn load_fast(
         Some(slot) => match slot {
             None => raise_named(alloc, Trouble::NAME_NOT_BOUND, chars_or_none(name)),
             Some(value) => {
-                let value = value.copy(alloc)?;
+                let value = value.copy()?;
                 push(frame, value)
             }
         },
@@ -102,7 +98,7 @@ fn load_named(
     requires { frame.old.index < 65536 }
     ensures { IfOk result (λ ending. spec.load_found frame.old name.now (spec.global_of program.now name.now) ≡ record { frame = frame.new; ending = ending }) }
 {
-    match global_value(alloc, program, name)? {
+    match global_value(program, name)? {
         None => raise_named(alloc, Trouble::NAME_NOT_DEFINED, name.chars()),
         Some(value) => push(frame, value),
     }

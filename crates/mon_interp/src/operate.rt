@@ -70,7 +70,7 @@ pub fn operate(
     let at = argument as usize;
     let ending = match op {
         Op::Nop | Op::Resume => go_on(frame),
-        Op::LoadConst => load_const(alloc, frame, code.constants.get(at))?,
+        Op::LoadConst => load_const(frame, code.constants.get(at))?,
         Op::LoadFast => load_fast(alloc, frame, code.locals.get(at), at)?,
         Op::StoreFast => store_fast(frame, at),
         Op::DeleteFast => delete_fast(frame, at),
@@ -85,7 +85,7 @@ pub fn operate(
         Op::BuildTuple => build_tuple(alloc, frame, argument)?,
         Op::UnpackSequence => unpack_sequence(alloc, frame, argument)?,
         Op::BinarySubscr => binary_subscr(alloc, frame)?,
-        Op::Copy => copy(alloc, frame)?,
+        Op::Copy => copy(frame)?,
         Op::Swap => swap(frame)?,
         Op::PopTop | Op::EndFor => pop_top(frame),
         Op::JumpForward | Op::JumpBackward => jump(frame, argument),

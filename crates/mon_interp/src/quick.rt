@@ -16,7 +16,7 @@ ghost use Rattle.mon_interp.specs.Moving.{frame_move};
 use crate::jump::is_done;
 use mon_code::{Code, Program, arith_op_of_number, cmp_op_of_number};
 use mon_events::Op;
-use mon_frames::{Frame, Operands, plain_copy};
+use mon_frames::{Frame, Operands};
 use mon_values::operator::{ArithOp, CmpOp};
 use mon_values::truth::is_true;
 use mon_values::value::Value;
@@ -44,9 +44,9 @@ fn load_const(frame: &mut Frame, constant: Option<&Value>) -> bool
 {
     match constant {
         None => false,
-        Some(value) => match plain_copy(value) {
-            None => false,
-            Some(value) => push(frame, value),
+        Some(value) => match value.copy() {
+            Err(_) => false,
+            Ok(value) => push(frame, value),
         },
     }
 }
@@ -57,7 +57,7 @@ fn load_fast(frame: &mut Frame, local: usize) -> bool
     ensures yes { (name : List ℕ) → result ≡ true → spec.load_fast frame.old name (slice_get frame.old.locals local) ≡ state.ends frame.new Continues }
     ensures no { result ≡ false → frame.new ≡ frame.old }
 {
-    match frame.locals.plain_at(local) {
+    match frame.locals.copy_at(local) {
         None => false,
         Some(value) => push(frame, value),
     }

@@ -1,32 +1,17 @@
 //! Instructions that make a tuple of values, and values of a sequence.
 
 ghost use Rattle.std.specs.Prelude.{◌≡◌, ◌<◌, ◌++◌, Some, OnOk, IfOk};
-ghost use Rattle.mon_values.specs.declared.value.Value.{Tuple as the_tuple};
-ghost use Rattle.mon_values.specs.Weights.{made};
 ghost use Rattle.mon_frames.specs.Items.{items_of, count_of, or_none};
 ghost use Rattle.mon_machine.specs.Operations as spec;
 
 use crate::answer::{give, go_on, raise};
 use mon_frames::{Frame, Operands, item_at, item_count};
 use mon_machine::Ending;
+use mon_shared::SharedItems;
 use mon_values::fault::Trouble;
-use mon_values::value::{Tuple, Value};
-use mon_values::weight::{MAX_DEPTH, MAX_WEIGHT, all_nest_at_most, spend_items};
+use mon_values::value::Value;
+use mon_values::weight::made_tuple;
 use std::alloc::{AllocError, Global};
-
-// The tuple of these values, where it keeps the limits of weight and depth.
-#[tactic(auto, using(mon_builtins::proofs::Sequences::items_heavy, mon_builtins::proofs::Sequences::items_deep, mon_builtins::proofs::Sequences::items_made))]
-fn made_tuple(items: Tuple) -> Result<Value, Trouble>
-    ensures { result ≡ made (the_tuple items) }
-{
-    let Some(_) = spend_items(items.as_slice(), MAX_WEIGHT - 1) else {
-        return Err(Trouble::TOO_LARGE);
-    };
-    if !all_nest_at_most(items.as_slice(), MAX_DEPTH - 1) {
-        return Err(Trouble::NESTED_TOO_DEEPLY);
-    }
-    Ok(Value::Tuple(items))
-}
 
 /// `BUILD_TUPLE` of so many values, the last on top.
 pub fn build_tuple(alloc: Global, frame: &mut Frame, count: u32) -> Result<Ending, AllocError>
@@ -37,7 +22,7 @@ pub fn build_tuple(alloc: Global, frame: &mut Frame, count: u32) -> Result<Endin
     if frame.stack.len() < count {
         return Ok(Ending::Misses);
     }
-    let items = frame.stack.take_top(alloc, count)?;
+    let items = SharedItems::from_vec(frame.stack.take_top(count)?)?;
     give(alloc, frame, made_tuple(items))
 }
 

@@ -7,7 +7,7 @@ use mon_code::{Code, Program};
 use mon_frames::Frames;
 use mon_machine::Mode;
 use mon_recorders::ThreadReport;
-use mon_values::value::Value;
+use mon_values::value::{Value, copies_of};
 use mon_words::Handle;
 use sqlite_items::Items;
 use std::alloc::{AllocError, Global};
@@ -103,7 +103,7 @@ impl Thread {
         ensures { IfOk result (λ t. t ≡ beginning code.now number args.now) }
     {
         let mut frames = Frames::new(alloc);
-        frames.enter(code, number, args)?;
+        frames.enter(code, number, copies_of(alloc, args)?)?;
         let machine = Machine {
             alloc,
             frames,

@@ -170,7 +170,7 @@ fn write_out(
 ) -> Result<(), AllocError>
     ensures { OnOk result (string_bytes out.new ≡ string_bytes out.old ++ spec.out_line program.now printed.now) }
 {
-    let value = Value::Text(printed.copy(alloc)?);
+    let value = Value::Text(printed.copy()?);
     out.push_str("out ")?;
     write_value(alloc, out, program, &value)?;
     out.push_str("\n")
@@ -198,7 +198,7 @@ fn write_exc(
 ) -> Result<(), AllocError>
     ensures { OnOk result (string_bytes out.new ≡ string_bytes out.old ++ spec.exc_text program.now exc.now) }
 {
-    let value = Value::Exc(exc.copy(alloc)?);
+    let value = Value::Exc(exc.copy()?);
     write_value(alloc, out, program, &value)
 }
 

@@ -2,7 +2,6 @@ ghost use Rattle.std.specs.Prelude.{◌≡◌, []};
 
 use mon_events::Event;
 use mon_values::text::Text;
-use std::alloc::Global;
 use std::marker::Model;
 
 /// The first 40 characters of a printed value; empty where there is none. Contracts see it as its characters.
@@ -21,12 +20,10 @@ impl Model for Cut {
 
 impl Cut {
     /// No value.
-    pub fn absent(alloc: Global) -> Cut
+    pub fn absent() -> Cut
         ensures { result ≡ [] }
     {
-        Cut {
-            text: Text::new(alloc),
-        }
+        Cut { text: Text::new() }
     }
 
     /// The characters.

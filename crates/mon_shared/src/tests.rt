@@ -15,7 +15,7 @@ fn what_is_shared_is_the_same(rt: HostRuntime) -> Result<(), Fail> {
     let items = two_items(alloc)?;
     let other = items.share()?;
     drop(items);
-    assert!(rt; other.as_slice() == &[3, 200] && other.len() == 2 && !other.is_empty());
+    assert!(rt; other.as_slice() == [3, 200].as_slice() && other.len() == 2 && !other.is_empty());
     let none: SharedItems<u8> = SharedItems::new();
     assert!(rt; none.is_empty() && none.share()?.is_empty());
     let boxed = SharedBox::new(alloc, 7u8)?;

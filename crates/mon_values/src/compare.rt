@@ -6,6 +6,7 @@ use crate::fault::Trouble;
 use crate::operator::CmpOp;
 use crate::range::range_len;
 use crate::value::{Exc, Value};
+use mon_shared::SharedBox;
 use std::cmp::Ordering;
 
 /// How a value stands to another.
@@ -120,12 +121,12 @@ impl Exc {
 }
 
 #[cycle(verdict)]
-fn done_verdict(a: &Option<Exc>, b: &Option<Exc>) -> Verdict
+fn done_verdict(a: &Option<SharedBox<Exc>>, b: &Option<SharedBox<Exc>>) -> Verdict
     ensures { result ≡ spec.option_verdict spec.exc_verdict a.now b.now }
 {
     match (a, b) {
         (None, None) => Verdict::Equal,
-        (Some(a), Some(b)) => Verdict::same(a.verdict(b).is_equal()),
+        (Some(a), Some(b)) => Verdict::same(a.get().verdict(b.get()).is_equal()),
         _ => Verdict::Unequal,
     }
 }

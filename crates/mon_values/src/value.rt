@@ -34,7 +34,7 @@ pub enum Value {
     /// A range, by its start, its end and its step.
     Range(i64, i64, i64),
     /// The end of a `for` loop, with the StopIteration of a generator that returned.
-    Done(Option<Exc>),
+    Done(Option<SharedBox<Exc>>),
 }
 
 /// An exception, by the number of its class and its argument.
@@ -68,7 +68,7 @@ impl Value {
             Value::Iter(k) => Ok(Value::Iter(*k)),
             Value::Range(start, end, step) => Ok(Value::Range(*start, *end, *step)),
             Value::Done(None) => Ok(Value::Done(None)),
-            Value::Done(Some(exc)) => Ok(Value::Done(Some(exc.copy()?))),
+            Value::Done(Some(exc)) => Ok(Value::Done(Some(exc.share()?))),
         }
     }
 }
@@ -94,7 +94,7 @@ impl Exc {
 ghost use Rattle.std.specs.Prelude.{◌≡◌, ◌++◌, IfOk, OnOk, OnErr};
 
 /// Adds copies of these values at the end.
-pub fn append_copies(to: &mut Vec<Value>, items: &[Value]) -> Result<(), AllocError>
+pub(crate) fn append_copies(to: &mut Vec<Value>, items: &[Value]) -> Result<(), AllocError>
     ensures { OnOk result (to.new.items ≡ to.old.items ++ items.now) }
 {
     for item in items {
@@ -103,13 +103,13 @@ pub fn append_copies(to: &mut Vec<Value>, items: &[Value]) -> Result<(), AllocEr
     Ok(())
 }
 
-/// Copies of these values, as a tuple.
-pub fn copy_items(alloc: Global, items: &[Value]) -> Result<Tuple, AllocError>
-    ensures { IfOk result (λ copies. copies ≡ items.now) }
+/// Copies of these values.
+pub fn copies_of(alloc: Global, items: &[Value]) -> Result<Vec<Value>, AllocError>
+    ensures { IfOk result (λ copies. copies.items ≡ items.now) }
 {
     let mut copies = Vec::with_capacity(alloc, items.len())?;
     append_copies(&mut copies, items)?;
-    SharedItems::from_vec(copies)
+    Ok(copies)
 }
 
 impl Value {
@@ -124,7 +124,10 @@ impl Value {
             Value::Text(text) => Ok(Value::Text(text.own(alloc)?)),
             Value::Tuple(items) => Ok(Value::Tuple(own_items(alloc, items.as_slice())?)),
             Value::Exc(exc) => Ok(Value::Exc(exc.own(alloc)?)),
-            Value::Done(Some(exc)) => Ok(Value::Done(Some(exc.own(alloc)?))),
+            Value::Done(Some(exc)) => {
+                let exc = exc.get().own(alloc)?;
+                Ok(Value::Done(Some(SharedBox::new(alloc, exc)?)))
+            }
             plain => plain.copy(),
         }
     }

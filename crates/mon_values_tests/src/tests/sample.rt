@@ -1,9 +1,9 @@
+use mon_shared::{SharedBox, SharedItems};
 use mon_values::fault::Trouble;
 use mon_values::print::repr;
 use mon_values::text::{Text, TextBuffer};
 use mon_values::trouble::trouble_exc;
 use mon_values::value::{Exc, Value};
-use mon_shared::{SharedBox, SharedItems};
 use std::alloc::{AllocError, Global};
 
 /// A value to build.

@@ -1,4 +1,5 @@
 use super::sample::{Sample, build, is_text, prints_as};
+use mon_shared::SharedItems;
 use mon_values::class::is_subclass;
 use mon_values::compare::compare;
 use mon_values::contain::contains;
@@ -7,7 +8,7 @@ use mon_values::operator::CmpOp;
 use mon_values::print::repr;
 use mon_values::text::{Text, TextBuffer};
 use mon_values::truth::is_true;
-use mon_values::value::{Value, copy_items};
+use mon_values::value::{Value, copies_of};
 use std::alloc::{AllocError, Global};
 use std::test::Fail;
 
@@ -77,7 +78,8 @@ fn copies_are_equal(rt: HostRuntime) -> Result<(), Fail> {
 }
 
 fn copied_items(alloc: Global) -> Result<Value, AllocError> {
-    Ok(Value::Tuple(copy_items(alloc, &[Value::Int(1), Value::None])?))
+    let copies = copies_of(alloc, &[Value::Int(1), Value::None])?;
+    Ok(Value::Tuple(SharedItems::from_vec(copies)?))
 }
 
 #[test]

@@ -5,7 +5,7 @@ use Rattle.mon_compile.proofs.Constants.{constant_nodes}
 use Rattle.mon_compile.proofs.program.+value_of.Given as goal
 
 abbrev pub invariant-values_of-loop-constant : goal.invariant-values_of-loop-constant
-invariant-values_of-loop-constant l = l.values ++ map spec.constant_value (drop l.constant-index l.constants) ≡ map spec.constant_value l.constants
+invariant-values_of-loop-constant l = l.values.items ++ map spec.constant_value (drop l.constant-index l.constants) ≡ map spec.constant_value l.constants
 
 abbrev pub decreases-value_of : goal.decreases-value_of
 decreases-value_of l = 2 * constant_nodes l.constant.now

@@ -8,5 +8,5 @@ loop-left-preserved c =
     let some : 0 < c.loop-left.left = omega (arith, c.loop-left-test.true) in
     record {
       within = omega (arith, c.loop-left.invariant.within);
-      pushed = pushed_more (or_none (items_of c.args.whole.now)) c.args.stack.now c.loop-left.stack c.push.new.self c.loop-left.left c.in-Some.item some (sym c.in_ok-item.ensures.value ∙ c.in-Some.is) c.loop-left.invariant.pushed c.in_ok-push.ensures.ok;
+      pushed = pushed_more (or_none (items_of c.args.whole.now)) c.args.stack.now c.loop-left.stack c.push.new.self c.loop-left.left c.in-Some.item some (sym c.in_ok-item.ensures ∙ c.in-Some.is) c.loop-left.invariant.pushed c.in_ok-push.ensures.ok;
     }

@@ -1,12 +1,17 @@
-use Rattle.std.proofs.Common.{◌≡◌, ◌∙◌, ◌++◌, ◌∷◌, [], List, take, drop, sym, ap}
+use Rattle.std.proofs.Common.{◌≡◌, ◌+◌, ◌-◌, ℕ, List, length, reverse, take, drop, ap, ◌∙◌, arith}
+use Rattle.std.proofs.lemmas.List.{length-reverse}
 use Rattle.mon_values.specs.declared.value.Value.{Value}
-use Rattle.mon_frames.proofs.Lists.{take_one_more, drop_one_more}
+use Rattle.mon_frames.proofs.Lists.{top_reversed, left_reversed}
 use Rattle.mon_frames.proofs.frame.Operands.take_top.Goals as goal
 
-pub loop-turn-preserved : goal.loop-turn-preserved
-loop-turn-preserved c =
-    let stood : drop c.loop-turn._turn c.args.self.now ≡ c.in-Some.value ∷ c.pop.new.self = sym c.loop-turn.invariant.left ∙ c.in-Some.ensures in
-    record {
-      taken = c.in_ok-push.ensures.items ∙ ap (λ (l : List Value). l ++ c.in-Some.value ∷ []) c.loop-turn.invariant.taken ∙ sym (take_one_more c.args.self.now c.loop-turn._turn c.in-Some.value c.pop.new.self stood);
-      left = sym (drop_one_more c.args.self.now c.loop-turn._turn c.in-Some.value c.pop.new.self stood);
-    }
+pub returns-clause-taken : goal.returns-clause-taken
+returns-clause-taken c =
+    let xs : List Value = c.self.inside.items.items in
+    let cut : c.len.result - c.args.count + c.args.count ≡ length xs = omega (arith, c.len.ensures, c.self.inside.items.ok.0, c.requires, ap length c.self.view_is, length-reverse xs) in
+    c.in_ok-taken.ensures.tail ∙ top_reversed xs (c.len.result - c.args.count) c.args.count cut ∙ ap (λ (l : List Value). reverse (take c.args.count l)) c.self.view_is
+
+pub returns-clause-left : goal.returns-clause-left
+returns-clause-left c =
+    let xs : List Value = c.self.inside.items.items in
+    let cut : c.len.result - c.args.count + c.args.count ≡ length xs = omega (arith, c.len.ensures, c.self.inside.items.ok.0, c.requires, ap length c.self.view_is, length-reverse xs) in
+    ap (λ (l : List Value). reverse l) c.in_ok-taken.ensures.items ∙ left_reversed xs (c.len.result - c.args.count) c.args.count cut ∙ ap (λ (l : List Value). drop c.args.count l) c.self.view_is
