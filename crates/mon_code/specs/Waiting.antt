@@ -9,7 +9,8 @@ use Rattle.mon_code.specs.Programs.{Parts}
 use Rattle.mon_code.specs.Checked.{is_safe, IsChecked}
 
 abbrev pub bare_location : Op → Option Handler → ℕ → ℕ → Location
-bare_location op handler argument stack = record { argument = argument; line = None; is_marked = false; is_safe = is_safe op; handler = handler; stack = stack; handling = 0 }
+bare_location op handler argument stack =
+    record { argument = argument; line = None; is_marked = false; is_safe = is_safe op; handler = handler; stack = stack; handling = 0 }
 
 -- RETURN_GENERATOR; POP_TOP; RESUME 0; LOAD_CONST; YIELD_VALUE; RESUME 1 with this handler; RETURN_VALUE; POP_TOP; RETURN_VALUE
 abbrev pub one_yield : Option Handler → Parts

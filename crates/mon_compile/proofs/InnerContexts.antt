@@ -5,14 +5,14 @@ use Rattle.mon_compile.specs.declared.assembly.Label.TheVariants.{At}
 use Rattle.mon_compile.specs.Contexts.{Entry, Except, Raised, Returning, Context}
 use Rattle.mon_compile.specs.Statements.{statement_code, handler_code, block}
 use Rattle.mon_compile.specs.Moved.{Fixes, moved_entry, moved_context}
-use Rattle.mon_compile.specs.InnerContexts.{Closed, Around, While, For, Try, ExceptAs, Finally, entry_of, IsAround, AllPartsHaveLabels, SameLength, ClausesSameLength, ContextsAreClosed}
+use Rattle.mon_compile.specs.InnerContexts.{Closed, Around, While, For, Try, ExceptAs, Finally, entry_of, IsAround, AllHaveLabels, SameLength, ClausesSameLength, ContextsAreClosed}
 use Rattle.mon_compile.proofs.StatementLabels.{guarded_carrying}
 use Rattle.mon_compile.proofs.Labels.{body_carries, clauses_carry}
 use Rattle.mon_compile.proofs.ContextDepths.{same_length}
 use Rattle.mon_compile.proofs.StatementDepths.{clauses_length, closed_entry}
 
-pub parts_have_labels : AllPartsHaveLabels
-parts_have_labels locals body = record {
+pub all_have_labels : AllHaveLabels
+all_have_labels locals body = record {
   block = λ g. body_carries g locals body;
   guarded_block = λ clauses g. guarded_carrying g (block (map (statement_code locals) body)) (map (handler_code locals) clauses) (body_carries g locals body) (clauses_carry g locals clauses);
 }

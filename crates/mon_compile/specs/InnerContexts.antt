@@ -41,21 +41,25 @@ abbrev pub IsAround : Around → Type 0
 IsAround (Finally last) = HasLabels last
 IsAround _ = Unit {0}
 
--- Each block has the labels of its context and no others, and so has the body of a `try` with its clauses.
-pub record PartsHaveLabels (locals : Locals) (body : List Statement) : Type 0 where
+-- The code of a block has the labels of its context and no others, and so has the body of a `try` with its clauses.
+pub record HasLabelsOfContext (locals : Locals) (body : List Statement) : Type 0 where
   pub block : HasLabels (block_code locals body)
   pub guarded_block : (clauses : List Handler) → HasLabels (guarded (block_code locals body) (map (handler_code locals) clauses))
 
-abbrev pub AllPartsHaveLabels : Type 0
-AllPartsHaveLabels = (locals : Locals) (body : List Statement) → PartsHaveLabels locals body
+abbrev pub AllHaveLabels : Type 0
+AllHaveLabels = (locals : Locals) (body : List Statement) → HasLabelsOfContext locals body
 
 -- A part is as long with one index in the entry round it as with another.
 abbrev pub SameLength : Type 0
-SameLength = (a : Scheme) → HasLabels a → (e : Around) → IsAround e → (c : Context) → Closed c → (n at : ℕ) → length (a (entry_of e c (At 0) ∷ c) at) ≡ length (a (entry_of e c (At n) ∷ c) at)
+SameLength =
+    (a : Scheme) → HasLabels a → (e : Around) → IsAround e → (c : Context) → Closed c → (n at : ℕ)
+    → length (a (entry_of e c (At 0) ∷ c) at) ≡ length (a (entry_of e c (At n) ∷ c) at)
 
 -- So are the clauses of a `try`, wherever the statement ends.
 abbrev pub ClausesSameLength : Type 0
-ClausesSameLength = (locals : Locals) (clauses : List Handler) (c : Context) → Closed c → (n at : ℕ) → length (clauses_code (map (handler_code locals) clauses) (At 0) c at) ≡ length (clauses_code (map (handler_code locals) clauses) (At n) c at)
+ClausesSameLength =
+    (locals : Locals) (clauses : List Handler) (c : Context) → Closed c → (n at : ℕ)
+    → length (clauses_code (map (handler_code locals) clauses) (At 0) c at) ≡ length (clauses_code (map (handler_code locals) clauses) (At n) c at)
 
 -- each context of a part inside a context
 pub record InnerAreClosed (c : Context) : Type 0 where

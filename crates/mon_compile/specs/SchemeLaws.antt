@@ -1,25 +1,14 @@
 -- Laws of the compile scheme.
-use Rattle.std.specs.Prelude.{◌≡◌, ℕ, Bool, true, false, List, map, Some, None, slice_get}
+use Rattle.std.specs.Prelude.{◌≡◌, ℕ, Bool, true, false, Some, None, slice_get}
 use Rattle.mon_events.specs.declared.op.Op.{Op}
 use Rattle.mon_code.specs.Programs.{op_in}
 use Rattle.mon_code.specs.Checked.{IsChecked}
 use Rattle.mon_trees.specs.declared.tree.Function.{Function}
 use Rattle.mon_trees.specs.declared.tree.Module.{Module}
-use Rattle.mon_trees.specs.declared.tree.Statement.{Statement}
-use Rattle.mon_compile.specs.declared.assembly.Label.{Label}
-use Rattle.mon_compile.specs.Contexts.{Context}
-use Rattle.mon_compile.specs.Expressions.{Locals}
-use Rattle.mon_compile.specs.Statements.{block_code}
 use Rattle.mon_compile.specs.Functions.{function_code}
 use Rattle.mon_compile.specs.Modules.{compiled}
 use Rattle.mon_compile.specs.Faults.{compile_fault}
-use Rattle.mon_compile.specs.Moved.{Fixes, moved, moved_context}
 use Rattle.mon_compile.specs.Placed.{IsFitted}
-
--- The code of a block has the labels of its context and no others, and its length depends on none: with other labels in
--- the context it is the same code with other labels.
-abbrev pub HasLabelsOfContext : Type 0
-HasLabelsOfContext = (g : Label → Label) → Fixes g → (locals : Locals) (body : List Statement) (context : Context) (at : ℕ) → block_code locals body (moved_context g context) at ≡ map (moved g) (block_code locals body context at)
 
 -- At each index of a function's code the depths are as recorded, and each jump and handler lands on a recorded index
 -- other than 0.

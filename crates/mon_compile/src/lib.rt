@@ -32,5 +32,4 @@ pub use scheme_laws::{
     breaks_stand_in_loops, code_has_labels_of_context, compiled_programs_are_checked,
     compiled_programs_have_content, compiled_programs_have_no_generators,
     contexts_have_indexes_alone, function_code_fits_depths, lengths_depend_on_no_index,
-    parts_have_labels_of_context,
 };

@@ -2,12 +2,12 @@
 
 ghost use Rattle.mon_compile.specs.Content.{ContentLaw};
 ghost use Rattle.mon_compile.specs.InLoops.{BreaksStandInLoops, TellsLoose};
-ghost use Rattle.mon_compile.specs.InnerContexts.{AllPartsHaveLabels, ClausesSameLength, ContextsAreClosed, SameLength};
-ghost use Rattle.mon_compile.specs.SchemeLaws.{FitsDepths, HasLabelsOfContext, HasNoGenerators, ProgramsAreChecked};
+ghost use Rattle.mon_compile.specs.InnerContexts.{AllHaveLabels, ClausesSameLength, ContextsAreClosed, SameLength};
+ghost use Rattle.mon_compile.specs.SchemeLaws.{FitsDepths, HasNoGenerators, ProgramsAreChecked};
 
-/// The code of a block has the labels of its context and no others, and its length depends on none of them.
+/// The code of a block, and of the body of a `try` with its clauses, has the labels of its context and no others.
 pub fn code_has_labels_of_context()
-    ensures { HasLabelsOfContext }
+    ensures { AllHaveLabels }
 {}
 
 /// At each index of a function's code the operand stack and the handling list are as deep as recorded, and each jump and
@@ -30,11 +30,6 @@ pub fn compiled_programs_have_no_generators()
 /// content, the handler and the line of the function's code.
 pub fn compiled_programs_have_content()
     ensures { ContentLaw }
-{}
-
-/// Each part of a statement has the labels of its context and no others.
-pub fn parts_have_labels_of_context()
-    ensures { AllPartsHaveLabels }
 {}
 
 /// A part is as long with one index in the entry round it as with another.

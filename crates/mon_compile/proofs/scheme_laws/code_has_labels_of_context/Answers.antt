@@ -1,5 +1,5 @@
-use Rattle.mon_compile.proofs.Labels.{body_carries}
+use Rattle.mon_compile.proofs.InnerContexts.{all_have_labels}
 use Rattle.mon_compile.proofs.scheme_laws.code_has_labels_of_context.Goals as goal
 
 pub returns : goal.returns
-returns c = λ g fix locals body context at. body_carries g locals body context fix at
+returns c = all_have_labels
