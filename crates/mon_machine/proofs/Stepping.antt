@@ -109,7 +109,7 @@ step_in p (call ∷ calls) its (Mode.Unwind e) runs checked at = record {
       (unwinds_keeps p call.frame calls its at.2 e call.origin at.1.location.handler at.1 refl at.0);
   marks = unwinds_marked p (record { calls = call ∷ calls; generators = []; iterators = its }) e (call ∷ calls);
 }
-step_in p calls its (Mode.Ended outcome) runs checked at = record { keeps = record { generators = refl; stands = tt }; marks = tt }
+step_in p calls its (Mode.Ended outcome) runs checked at = record { keeps = record { generators = refl; stands = at }; marks = tt }
 step_in p calls its Mode.Stuck runs checked at = absurd at
 
 pub step_steps : (p : Parts) (s : State) → AllRun p → IsChecked p → Keeps p s → Steps p (step p s)
