@@ -162,11 +162,6 @@ impl Slot {
     pub fn number(self) -> u8
         ensures { result ≡ spec.slot_number self }
     {
-        match self {
-            Slot::Line => 0,
-            Slot::Instruction => 1,
-            Slot::Main => 2,
-            Slot::Spare => 3,
-        }
+        self as u8
     }
 }

@@ -37,3 +37,8 @@ count_of (Some items) = Some (length items)
 -- the lowest of a stack, of which the top comes first
 abbrev pub lowest : {A : Type 0} → ℕ → List A → List A
 lowest count stack = drop (length stack - count) stack
+
+-- the value of a local, if there is such a local and it is bound
+abbrev pub bound : {A : Type 0} → Option (Option A) → Option A
+bound None = None
+bound (Some local) = local

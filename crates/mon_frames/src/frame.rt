@@ -39,7 +39,7 @@ impl Operands {
     }
 
     /// The empty stack, with room for so many values.
-    pub fn with_capacity(alloc: Global, count: usize) -> Result<Operands, AllocError>
+    pub(crate) fn with_capacity(alloc: Global, count: usize) -> Result<Operands, AllocError>
         ensures { IfOk result (λ stack. stack ≡ []) }
     {
         Ok(Operands {
@@ -127,7 +127,7 @@ impl Locals {
     }
 
     /// No locals, with room for so many.
-    pub fn with_capacity(alloc: Global, count: usize) -> Result<Locals, AllocError>
+    pub(crate) fn with_capacity(alloc: Global, count: usize) -> Result<Locals, AllocError>
         ensures { IfOk result (λ locals. locals ≡ []) }
     {
         Ok(Locals {

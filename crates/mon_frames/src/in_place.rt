@@ -1,10 +1,12 @@
 //! What is done in place, without memory: all of it or nothing.
 
-ghost use Rattle.std.specs.Prelude.{◌≡◌, ◌≤◌, ◌∷◌, length, drop, true, false, Some, slice_get, MatchOption};
+ghost use Rattle.std.specs.Prelude.{◌≡◌, ◌≤◌, ◌∷◌, length, drop, true, false, Some, None, slice_get, MatchOption, IfOk};
 ghost use Rattle.mon_values.specs.declared.value.Value as item;
+ghost use Rattle.mon_frames.specs.Items.{bound};
 
 use crate::frame::{Locals, Operands};
 use mon_values::value::Value;
+use std::alloc::AllocError;
 
 impl Operands {
     /// Puts a value on top where there is room for it; whether there was.
@@ -52,13 +54,14 @@ impl Operands {
 }
 
 impl Locals {
-    /// A copy of the value of a local, where it is bound to one and the count of that one's owners is not full.
-    pub fn copy_at(&self, at: usize) -> Option<Value>
-        ensures { MatchOption result (Unit {0}) (λ value. slice_get self.now at ≡ Some (Some value)) }
+    /// A copy of the value of a local, if there is such a local and it is bound.
+    pub fn copy_at(&self, at: usize) -> Result<Option<Value>, AllocError>
+        ensures { IfOk result (λ copy. MatchOption copy (bound (slice_get self.now at) ≡ None) (λ value. slice_get self.now at ≡ Some (Some value))) }
     {
         match self.items.get(at) {
-            Some(Some(value)) => value.copy().ok(),
-            _ => None,
+            None => Ok(None),
+            Some(None) => Ok(None),
+            Some(Some(value)) => Ok(Some(value.copy()?)),
         }
     }
 }

@@ -58,8 +58,8 @@ fn load_fast(frame: &mut Frame, local: usize) -> bool
     ensures no { result ≡ false → frame.new ≡ frame.old }
 {
     match frame.locals.copy_at(local) {
-        None => false,
-        Some(value) => push(frame, value),
+        Ok(Some(value)) => push(frame, value),
+        _ => false,
     }
 }
 

@@ -11,6 +11,8 @@ use mon_values::truth::is_true;
 use mon_values::value::{Value, copies_of};
 use std::alloc::{AllocError, Global};
 use std::test::Fail;
+use std::thread;
+use std::thread::Threads;
 
 /// A value, and whether it counts as true.
 struct TruthRow(Sample, bool);
@@ -129,5 +131,18 @@ fn characters_above_127_are_whole(rt: HostRuntime) -> Result<(), Fail> {
     assert!(rt; compare(CmpOp::Lt, &text, &accent) == Ok(true));
     let printed = ['\'', 'z', '\u{e9}', '\u{6f22}', '\''];
     assert!(rt; repr(alloc, &text, &[])?.chars() == printed.as_slice());
+    Ok(())
+}
+
+fn crossed(rt: &impl Threads, value: Value) -> Value {
+    let (there, _) = thread::join(rt, move || value, || ());
+    there
+}
+
+#[test]
+fn a_value_crosses_to_another_thread(rt: HostRuntime) -> Result<(), Fail> {
+    let value = build(rt.alloc(), &Sample::RaisedPair(16))?;
+    let there = crossed(&rt, value.copy()?);
+    assert!(rt; there.equals(&value));
     Ok(())
 }
