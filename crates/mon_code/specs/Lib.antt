@@ -3,3 +3,4 @@ pub mod Effects
 pub mod Depths
 pub mod Checked
 pub mod Operators
+pub mod Sites

@@ -3,6 +3,8 @@
 
 mod operator;
 mod program;
+mod site;
 
 pub use operator::{arith_number, arith_op_of_number, cmp_number, cmp_op_of_number};
 pub use program::{Code, Handler, Location, ModuleConstant, Program, is_named, is_same};
+pub use site::Site;

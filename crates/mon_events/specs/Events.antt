@@ -1,5 +1,5 @@
 -- Events: their bits, their names, and which are local (PEP 669).
-use Rattle.std.specs.Prelude.{ℕ, ◌+◌, ◌*◌, Bool, true, false, List, codes}
+use Rattle.std.specs.Prelude.{ℕ, ◌+◌, ◌*◌, Bool, true, false, List, [], ◌∷◌, length, slice_index_or, codes, Option, Some, None}
 use Rattle.mon_events.specs.declared.event.Event.{Event}
 use Rattle.mon_events.specs.declared.event.Slot.{Slot}
 
@@ -61,6 +61,36 @@ is_local Event.PyThrow = false
 is_local Event.PyUnwind = false
 is_local Event.Raise = false
 is_local Event.Reraise = false
+
+-- C_RAISE and C_RETURN, which are enabled where CALL is
+abbrev pub is_ancillary : Event → Bool
+is_ancillary Event.CRaise = true
+is_ancillary Event.CReturn = true
+is_ancillary _ = false
+
+-- the number of an event that is global alone, in the global word
+abbrev pub rank : Event → Option ℕ
+rank Event.Raise = Some 0
+rank Event.Reraise = Some 1
+rank Event.ExceptionHandled = Some 2
+rank Event.PyUnwind = Some 3
+rank Event.PyThrow = Some 4
+rank _ = None
+
+-- all events, in the order of their bits
+abbrev pub all_events : List Event
+all_events =
+    Event.Branch ∷ Event.Call ∷ Event.CRaise ∷ Event.CReturn ∷ Event.ExceptionHandled ∷ Event.Instruction ∷ Event.Jump
+    ∷ Event.Line ∷ Event.PyResume ∷ Event.PyReturn ∷ Event.PyStart ∷ Event.PyThrow ∷ Event.PyUnwind ∷ Event.PyYield
+    ∷ Event.Raise ∷ Event.Reraise ∷ Event.StopIteration ∷ []
+
+-- how many there are
+abbrev pub events : ℕ
+events = length all_events
+
+-- the event of a bit below `events`
+abbrev pub event_at : ℕ → Event
+event_at b = slice_index_or all_events b Event.StopIteration
 
 abbrev pub slot_number : Slot → ℕ
 slot_number Slot.Line = 0

@@ -1,0 +1,5 @@
+pub mod Bits
+pub mod Constants
+pub mod Listed
+pub mod Texts
+pub mod Splits
