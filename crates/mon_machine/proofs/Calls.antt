@@ -9,7 +9,7 @@ use Rattle.mon_machine.specs.State.{State, start}
 use Rattle.mon_machine.specs.Step.{step}
 use Rattle.mon_machine.specs.Run.{after_steps, is_heard, heard}
 use Rattle.mon_machine.specs.Serial.{wants_line}
-use Rattle.mon_machine.specs.Laws.{AllRun, IsCall, NeverStuck, LineMarks, HeardByWants}
+use Rattle.mon_machine.specs.Laws.{AllRun, IsCall, NeverStuck, LineMarks, ProperEvents, HeardByWants}
 use Rattle.mon_machine.proofs.Fitting.{checked_code}
 use Rattle.mon_machine.proofs.Keeping.{IsIn, Keeps, called_at}
 use Rattle.mon_machine.proofs.Stepping.{step_steps}
@@ -33,6 +33,9 @@ never_stuck p k c args call n stuck =
 
 pub line_marks : LineMarks
 line_marks p k c args call n = (step_steps p (after_steps p (start c k args) n) call.runs call.checked (call_keeps p k c args call n)).marks
+
+pub proper_events : ProperEvents
+proper_events p k c args call n = (step_steps p (after_steps p (start c k args) n) call.runs call.checked (call_keeps p k c args call n)).proper
 
 pub heard_by_wants : HeardByWants
 heard_by_wants p k c args call tool b wants = record { each_step = each; whole_run = λ i positions. records_of_lines p tool b i (start c k args) positions each }

@@ -12,7 +12,9 @@ use Rattle.mon_events.specs.Ops.{main_event}
 use Rattle.mon_code.specs.Programs.{Parts}
 use Rattle.mon_frames.specs.declared.frame.Frame.{Frame}
 use Rattle.mon_frames.specs.declared.call.Call.{Call}
-use Rattle.mon_recorders.specs.Happenings.{Happening, Kind, Local, Global, Ancillary}
+use Rattle.mon_recorders.specs.declared.happening.Happening.{Happening}
+use Rattle.mon_recorders.specs.declared.happening.Kind.{Kind}
+use Rattle.mon_recorders.specs.declared.happening.Kind.TheVariants.{Local, Global, Ancillary}
 use Rattle.mon_machine.specs.declared.mode.Ending.{Ending}
 use Rattle.mon_machine.specs.State.{Move}
 use Rattle.mon_machine.specs.Moves.{callee_in, args_in}
@@ -22,12 +24,12 @@ abbrev pub line_after : Option ℕ → Option ℕ → Option ℕ
 line_after None last = last
 line_after (Some line) last = Some line
 
--- an event in a frame, at an offset or a line
-abbrev pub happens : Event → Kind → Frame → ℕ → Happening
-happens event kind f at = record { event = event; kind = kind; code = f.code; at = at; dest = 0; first = []; second = [] }
-
 abbrev pub offset : Frame → ℕ
 offset f = 2 * f.index
+
+-- an event in a frame, at a line or its offset
+abbrev pub happens : Event → Kind → Frame → ℕ → Happening
+happens event kind f at = record { event = event; kind = kind; code = f.code; at = at; offset = offset f; dest = 0; first = []; second = [] }
 
 -- LINE, where the location has a line that differs from the frame's last one
 abbrev pub line_events : Frame → ℕ → Option ℕ → Option ℕ → List Happening

@@ -4,5 +4,5 @@
 mod laws;
 mod mode;
 
-pub use laws::{goes_on_by_one, heard_by_wants, line_marks, never_stuck};
+pub use laws::{goes_on_by_one, heard_by_wants, line_marks, never_stuck, proper_events};
 pub use mode::{Ending, Mode};
