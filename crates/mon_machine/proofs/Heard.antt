@@ -32,7 +32,7 @@ use Rattle.mon_code.specs.declared.program.Handler.{Handler}
 use Rattle.mon_machine.specs.declared.mode.Ending.{Ending}
 use Rattle.mon_machine.specs.State.{State, Move, goes, with_frame}
 use Rattle.mon_machine.specs.Moves.{effect}
-use Rattle.mon_machine.specs.Events.{Shown, shown, of_call, happens, offset, line_events, main_events, ancillary_events, raise_events, instruction_events}
+use Rattle.mon_machine.specs.Events.{Shown, shown, of_call, happens, offset, line_events, in_main, local_event, slot_events, ancillary_events, raise_events, instruction_events}
 use Rattle.mon_recorders.proofs.Folds.{for_tools_same, for_tools_never, delivered_append}
 use Rattle.mon_machine.specs.Step.{step, executed, with_line, goes_out, unwinds_from, unwinds}
 use Rattle.mon_machine.proofs.Runs.{stands_still, nothing_happens}
@@ -199,7 +199,7 @@ unheard hears i (h ∷ hs) alone others =
     let rest = unheard hears i hs alone others.1 in
     λ j. here j ++ rest j
 
-main_other : (event : Option Event) (s : Option Shown) (location : ℕ) (f : Frame) → AllByRecursion IsOtherKind (main_events event s location f)
+main_other : (event : Option Event) (s : Option Shown) (location : ℕ) (f : Frame) → AllByRecursion IsOtherKind (slot_events (in_main event s) location f)
 unfolding IsOtherKind
 main_other None s location f = tt
 main_other (Some event) None location f = tt
@@ -225,7 +225,7 @@ unfolding IsOtherKind
 heard_instruction hears i p op n location line f m alone =
     let lines = line_events f location line f.line in
     let instruction = happens Event.Instruction (Local location Slot.Instruction) f (offset f) in
-    let main = main_events (main_event op n) (shown p op n f m.frames.calls) location f in
+    let main = slot_events (local_event p op n f m) location f in
     let ancillary = ancillary_events m.ancillary (of_call p n f.stack) location f in
     let raised = raise_events p f m.ending in
     let none : heard hears i (instruction ∷ (main ++ (ancillary ++ raised))) ≡ []

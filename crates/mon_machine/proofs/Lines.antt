@@ -25,7 +25,7 @@ use Rattle.mon_recorders.specs.declared.happening.Happening.{Happening}
 use Rattle.mon_recorders.specs.declared.happening.Kind.TheVariants.{Local}
 use Rattle.mon_machine.specs.declared.mode.Ending.{Ending}
 use Rattle.mon_machine.specs.State.{Move}
-use Rattle.mon_machine.specs.Events.{Shown, shown, of_call, happens, offset, line_events, main_events, ancillary_events, raise_events, instruction_events}
+use Rattle.mon_machine.specs.Events.{Shown, shown, of_call, happens, offset, line_events, in_main, local_event, slot_events, ancillary_events, raise_events, instruction_events}
 use Rattle.mon_machine.specs.Step.{goes_out, unwinds_from, unwinds}
 use Rattle.mon_machine.specs.Laws.{MarksLine, is_line_kind}
 use Rattle.mon_machine.proofs.Heard.{all_append}
@@ -110,7 +110,7 @@ main_event_other Op.ReturnValue arg = λ e. cc
 main_event_other Op.YieldValue arg = λ e. cc
 main_event_other _ arg = tt
 
-main_marked : (p : Parts) (event : Option Event) (s : Option Shown) (location : ℕ) (f : Frame) → IsOther event → AllByRecursion (MarksLine p) (main_events event s location f)
+main_marked : (p : Parts) (event : Option Event) (s : Option Shown) (location : ℕ) (f : Frame) → IsOther event → AllByRecursion (MarksLine p) (slot_events (in_main event s) location f)
 main_marked p None s location f other = tt
 main_marked p (Some event) None location f other = tt
 main_marked p (Some event) (Some s) location f other = (record { marked = λ e. absurd (other e); alone = λ e. cc }, tt)
@@ -132,7 +132,7 @@ pub instruction_marked : (p : Parts) (c : Code) (op : Op) (l : Location) (f : Fr
     → AllByRecursion (MarksLine p) (instruction_events p op l.argument (c.first + f.index) l.line f m)
 instruction_marked p c op l f m is_of stands known came other =
     let location : ℕ = c.first + f.index in
-    let main = main_events (main_event op l.argument) (shown p op l.argument f m.frames.calls) location f in
+    let main = slot_events (local_event p op l.argument f m) location f in
     let ancillary = ancillary_events m.ancillary (of_call p l.argument f.stack) location f in
     let raised = raise_events p f m.ending in
     let instruction = happens Event.Instruction (Local location Slot.Instruction) f (offset f) in

@@ -35,7 +35,7 @@ use Rattle.mon_machine.specs.declared.mode.Ending.{Ending}
 use Rattle.mon_machine.specs.State.{FrameMove, Move, with_frame, in_top}
 use Rattle.mon_machine.specs.Moves.{with_stack, get_iter, iterates, for_iter, for_iter_at, for_generator, raises_again, return_value, operated, effect}
 use Rattle.mon_machine.specs.Operations.{operation, raise_top}
-use Rattle.mon_machine.specs.Events.{Shown, shown, of_call, happens, offset, showing, line_events, main_events, ancillary_events, raise_events, instruction_events}
+use Rattle.mon_machine.specs.Events.{Shown, shown, of_call, happens, offset, showing, line_events, in_main, local_event, slot_events, ancillary_events, raise_events, instruction_events}
 use Rattle.mon_machine.specs.Step.{goes_out, unwinds_from, unwinds}
 use Rattle.mon_machine.proofs.Heard.{all_append}
 use Rattle.mon_machine.proofs.Fitting.{line_before}
@@ -138,11 +138,11 @@ module _ (p : Parts) (c : Code) (op : Op) (l : Location) (f : Frame) (checked : 
       let at : op_in (Some (get_or p.bases (c.first + f.index) 0)) ≡ Some op = ap op_in (sym (get_is p.bases (c.first + f.index) low)) ∙ is in
       ap (λ (o : Option Op). event_of o l.argument) at
 
-  main_proper : (s : Option Shown) → AreProper (sites_of p) (main_events (main_event op l.argument) s (c.first + f.index) f)
+  main_proper : (s : Option Shown) → AreProper (sites_of p) (slot_events (in_main (main_event op l.argument) s) (c.first + f.index) f)
   unfolding LocalIf
   main_proper = pick (main_event op l.argument) refl (main_local op l.argument)
     where
-      pick : (event : Option Event) → main_event op l.argument ≡ event → LocalIf event → (s : Option Shown) → AreProper (sites_of p) (main_events event s (c.first + f.index) f)
+      pick : (event : Option Event) → main_event op l.argument ≡ event → LocalIf event → (s : Option Shown) → AreProper (sites_of p) (slot_events (in_main event s) (c.first + f.index) f)
       pick None e local s = tt
       pick (Some v) e local None = tt
       pick (Some v) e local (Some s) = (of_slot Slot.Main (showing s (happens v (Local (c.first + f.index) Slot.Main) f (offset f))) (main_is ∙ e) refl refl local, tt)
@@ -171,7 +171,7 @@ module _ (p : Parts) (c : Code) (op : Op) (l : Location) (f : Frame) (checked : 
   instruction_proper m known came which =
       let P : Happening → Type 0 = IsProper (sites_of p) in
       let location : ℕ = c.first + f.index in
-      let main = main_events (main_event op l.argument) (shown p op l.argument f m.frames.calls) location f in
+      let main = slot_events (local_event p op l.argument f m) location f in
       let ancillary = ancillary_events m.ancillary (of_call p l.argument f.stack) location f in
       let raised = raise_events p f m.ending in
       let instruction = happens Event.Instruction (Local location Slot.Instruction) f (offset f) in
