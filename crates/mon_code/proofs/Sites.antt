@@ -1,10 +1,11 @@
 -- Where the sites of a program stand.
-use Rattle.std.proofs.Common.{◌≡◌, ℕ, zero, suc, ◌+◌, ◌<◌, ◌≤◌, ◌++◌, List, [], ◌∷◌, length, get_or, Some, slice_get, refl, sym, ap, ◌∙◌, arith, length-append}
+use Rattle.std.proofs.Common.{◌≡◌, ℕ, zero, suc, ◌+◌, ◌-◌, ◌<◌, ◌≤◌, ◌++◌, List, [], ◌∷◌, length, get_or, Some, slice_get, refl, sym, ap, ◌∙◌, arith, length-append}
 use Rattle.mon_code.specs.declared.program.Code.{Code}
 use Rattle.mon_code.specs.declared.program.Location.{Location}
 use Rattle.mon_code.specs.declared.site.Site.{Site}
 use Rattle.mon_code.specs.Checked.{AllCodes, IsChecked}
 use Rattle.mon_code.specs.Programs.{Parts}
+use Rattle.mon_code.proofs.Codes.{code_within}
 use Rattle.mon_code.specs.Sites.{or_site, site_at, site_in, sites_in, sites_from, sites_of}
 
 pub some_same : {A : Type 0} (x y : A) → Some x ≡ Some y → x ≡ y
@@ -81,3 +82,7 @@ pub site_there : (p : Parts) (k : ℕ) (c : Code) (at : ℕ) (l : Location) → 
 site_there p k c at l is e g =
     let z : 0 + k ≡ k = omega arith in
     ap or_site (from_there p.bases 0 0 p.codes k c at l is.codes e g (c.first + at) (omega arith)) ∙ (λ i. site_in (z i) at l (get_or p.bases (c.first + at) 0))
+
+-- it is one of them
+pub site_within : (p : Parts) (k : ℕ) (c : Code) (at : ℕ) (l : Location) → IsChecked p → slice_get p.codes k ≡ Some c → slice_get c.locations at ≡ Some l → c.first + at < length (sites_of p)
+site_within p k c at l is e g = omega (arith, code_within p.bases 0 p.codes k c is.codes e, sites_long p is, has_item c.locations at l g)

@@ -1,5 +1,6 @@
 -- Events that stand where their kind says.
-use Rattle.std.specs.Prelude.{◌≡◌, ℕ, ◌<◌, Bool, true, List, [], ◌∷◌, length, Option, Some, is_some}
+use Rattle.std.specs.Prelude.{◌≡◌, ℕ, ◌<◌, true, List, length, Some, is_some}
+use Rattle.std.specs.List.{AllByRecursion}
 use Rattle.mon_events.specs.Events.{is_local, rank}
 use Rattle.mon_events.specs.declared.event.Event.{Event}
 use Rattle.mon_events.specs.declared.event.Slot.{Slot}
@@ -30,5 +31,4 @@ abbrev pub IsProper : List Site → Happening → Type 0
 IsProper sites e = IsProperAt e.kind sites e
 
 abbrev pub AreProper : List Site → List Happening → Type 0
-AreProper sites [] = Unit {0}
-AreProper sites (e ∷ es) = IsProper sites e × AreProper sites es
+AreProper sites es = AllByRecursion (IsProper sites) es
