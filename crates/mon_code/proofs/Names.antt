@@ -1,5 +1,5 @@
 -- What is left of two texts where one has ended.
-use Rattle.std.proofs.Common.{ap, sym, ◌∙◌, ◌&&◌, ◌==◌, Bool, ◌≡◌, ℕ, ◌<◌, ◌≤◌, List, [], ◌∷◌, length, drop, refl, arith, length-drop, true, false}
+use Rattle.std.proofs.Common.{ap, ◌&&◌, ◌==◌, Bool, ◌≡◌, ℕ, ◌<◌, ◌≤◌, List, [], ◌∷◌, length, drop, refl, arith, length-drop, true, false}
 use Rattle.std.proofs.Math.Dec.{eqb}
 use Rattle.std.specs.Cmp.Lexicographic.{pointwise}
 use Rattle.mon_code.specs.Programs.{is_text}

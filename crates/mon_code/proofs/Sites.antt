@@ -1,8 +1,7 @@
 -- Where the sites of a program stand.
-use Rattle.std.proofs.Common.{◌≡◌, ℕ, zero, suc, ◌+◌, ◌-◌, ◌<◌, ◌≤◌, ◌++◌, List, [], ◌∷◌, length, get_or, Some, slice_get, refl, sym, ap, ◌∙◌, arith, length-append}
+use Rattle.std.proofs.Common.{◌≡◌, ℕ, zero, suc, ◌+◌, ◌-◌, ◌<◌, ◌≤◌, ◌++◌, List, [], ◌∷◌, length, get_or, Some, slice_get, refl, ap, ◌∙◌, arith, length-append}
 use Rattle.mon_code.specs.declared.program.Code.{Code}
 use Rattle.mon_code.specs.declared.program.Location.{Location}
-use Rattle.mon_code.specs.declared.site.Site.{Site}
 use Rattle.mon_code.specs.Checked.{AllCodes, IsChecked}
 use Rattle.mon_code.specs.Programs.{Parts}
 use Rattle.mon_code.proofs.Codes.{code_within}

@@ -1,7 +1,7 @@
 -- Sets of events by their bits.
-use Rattle.std.proofs.Common.{◌≡◌, ℕ, ◌^◌, ◌<◌, Bool, refl, ap, ◌∙◌, arith}
+use Rattle.std.proofs.Common.{◌≡◌, ◌^◌, ◌<◌, Bool, refl, ap, ◌∙◌, arith}
 use Rattle.mon_events.specs.Events.{bit, events, event_at}
-use Rattle.mon_events.specs.Sets.{packed, has, set_of}
+use Rattle.mon_events.specs.Sets.{has, set_of}
 use Rattle.mon_events.specs.declared.event.Event.{Event}
 use Rattle.mon_events.proofs.Bits.{packed_lt, packed_bit}
 

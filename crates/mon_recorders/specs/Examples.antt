@@ -7,7 +7,6 @@ use Rattle.mon_words.specs.declared.history.Mark.TheVariants.{Off}
 use Rattle.mon_recorders.specs.declared.happening.Happening.{Happening}
 use Rattle.mon_recorders.specs.declared.happening.Kind.{Kind}
 use Rattle.mon_recorders.specs.declared.record.Record.{Record}
-use Rattle.mon_recorders.specs.declared.record.Disabled.{Disabled}
 use Rattle.mon_recorders.specs.Happenings.{delivered, answers, records_in, disables_in}
 use Rattle.mon_recorders.specs.Boards.{let_through, mark_of}
 

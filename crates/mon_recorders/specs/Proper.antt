@@ -1,5 +1,5 @@
 -- Events that stand where their kind says.
-use Rattle.std.specs.Prelude.{◌≡◌, ℕ, ◌<◌, true, List, length, Some, is_some}
+use Rattle.std.specs.Prelude.{◌≡◌, ℕ, ◌<◌, true, List, length, Option, Some, option_map, is_some}
 use Rattle.std.specs.List.{AllByRecursion}
 use Rattle.mon_events.specs.Events.{is_local, rank}
 use Rattle.mon_events.specs.declared.event.Event.{Event}
@@ -8,6 +8,7 @@ use Rattle.mon_code.specs.declared.site.Site.{Site}
 use Rattle.mon_code.specs.Sites.{site_at, slot_event}
 use Rattle.mon_recorders.specs.declared.happening.Happening.{Happening}
 use Rattle.mon_recorders.specs.declared.happening.Kind.{Kind}
+use Rattle.mon_recorders.specs.declared.record.Disabled.{Disabled}
 
 -- an event of a slot of a location: the slot has that event there, and the event has the location's code and offset
 pub record IsOfSlot (sites : List Site) (location : ℕ) (slot : Slot) (e : Happening) : Type 0 where
@@ -32,3 +33,8 @@ IsProper sites e = IsProperAt e.kind sites e
 
 abbrev pub AreProper : List Site → List Happening → Type 0
 AreProper sites es = AllByRecursion (IsProper sites) es
+
+-- the disable that a tool's answer at a slot of a location is told as: by the site alone
+abbrev pub disabled_at : ℕ → List Site → ℕ → Slot → ℕ → Option Disabled
+disabled_at step sites location slot tool =
+    option_map (λ event. record { step = step; tool = tool; event = event; code = (site_at sites location).code; at = (site_at sites location).offset }) (slot_event (site_at sites location) slot)

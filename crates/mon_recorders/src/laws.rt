@@ -1,7 +1,7 @@
 //! Laws of readings.
 
 ghost use Rattle.mon_recorders.specs.Examples.{HeardInTurn, DisabledInTurn, MarkedInTurn};
-ghost use Rattle.mon_recorders.specs.Laws.{OneMore, Joined};
+ghost use Rattle.mon_recorders.specs.Laws.{OneMore, Joined, ToldByPlace};
 
 /// A law: a reading goes on by a step.
 pub fn one_step_more()
@@ -19,4 +19,9 @@ pub fn worked_deliveries()
     ensures heard { HeardInTurn }
     ensures disabled { DisabledInTurn }
     ensures marked { MarkedInTurn }
+{}
+
+/// A law: what is told of a disable is known from its location, slot and tool, so that it can be told from a history.
+pub fn disables_are_told_by_place()
+    ensures { ToldByPlace }
 {}
