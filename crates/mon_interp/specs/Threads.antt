@@ -4,7 +4,8 @@ use Rattle.mon_values.specs.declared.value.Value.{Value}
 use Rattle.mon_code.specs.declared.program.Code.{Code}
 use Rattle.mon_code.specs.Programs.{Parts, code_named}
 use Rattle.mon_machine.specs.State.{start}
-use Rattle.mon_machine.specs.Run.{Progress}
+use Rattle.mon_recorders.specs.declared.report.ThreadReport.{ThreadReport}
+use Rattle.mon_machine.specs.Run.{Progress, outcome_of}
 use Rattle.mon_interp.specs.declared.thread.EntryFault.{EntryFault}
 use Rattle.mon_interp.specs.declared.thread.EntryFault.TheVariants.{NoFunction, WrongCount, Memory}
 
@@ -12,6 +13,10 @@ pub record ThreadView : Type 0 where
   pub progress : Progress
   -- memory was short once
   pub failed : Bool
+
+-- what is reported of a thread that has done so much; it has disabled nothing
+abbrev pub reported : Progress → ThreadReport
+reported x = record { printed = x.printed; records = x.records; disables = []; steps = x.steps; outcome = outcome_of x.state.mode }
 
 -- a thread that calls a code of this number
 abbrev pub beginning : Code → ℕ → List Value → ThreadView

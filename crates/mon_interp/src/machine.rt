@@ -59,7 +59,7 @@ fn turn(place: &mut Mode, mode: Mode)
 }
 
 impl Machine {
-    ghost use Rattle.std.specs.Prelude.{◌≡◌, ◌+◌, ◌<◌, ◌≤◌, ◌^◌, Some, map, true, ℕ, Bool, IsTrue, OnOk, IfOk, []};
+    ghost use Rattle.std.specs.Prelude.{◌≡◌, ◌+◌, ◌<◌, ◌≤◌, ◌^◌, Some, map, true, ℕ, Bool, IsTrue, OnOk, IfOk};
     ghost use Rattle.mon_words.specs.Words.{cell_of};
     ghost use Rattle.mon_words.specs.History.{after, cell_at, base_in};
     ghost use Rattle.mon_words.specs.Told.{Told, Sees};
@@ -69,13 +69,14 @@ impl Machine {
     ghost use Rattle.mon_words.specs.declared.history.Board.{Board as BoardOf};
     ghost use Rattle.mon_machine.specs.State.{goes};
     ghost use Rattle.mon_machine.specs.Step.{step, executed, unwinds, stuck};
-    ghost use Rattle.mon_machine.specs.Run.{is_heard, Ran, outcome_of};
+    ghost use Rattle.mon_machine.specs.Run.{is_heard, Ran};
     ghost use Rattle.mon_machine.specs.declared.mode.Mode.TheVariants.{Run, Unwind, Ended};
     ghost use Rattle.mon_recorders.specs.declared.report.Outcome.TheVariants.{Raised};
     ghost use Rattle.mon_recorders.specs.declared.happening.Kind.{Kind};
     ghost use Rattle.mon_interp.specs.Heard.{cell_hears};
     ghost use Rattle.mon_interp.specs.Machines.{progress_of, state_of, Stepped};
     ghost use Rattle.mon_interp.specs.Moving.{Stands};
+    ghost use Rattle.mon_interp.specs.Threads.{reported};
 
     /// Whether it goes on.
     pub fn goes(&self) -> bool
@@ -235,11 +236,7 @@ impl Machine {
 
     /// What is reported of the thread.
     pub fn report(self) -> ThreadReport
-        ensures records { result.records ≡ self.records }
-        ensures steps { result.steps ≡ self.steps }
-        ensures outcome { result.outcome ≡ outcome_of self.mode }
-        ensures printed { result.printed ≡ self.printed }
-        ensures disables { result.disables ≡ [] }
+        ensures { result ≡ reported (progress_of self) }
     {
         let Machine {
             alloc,

@@ -86,12 +86,13 @@ impl Model for Thread {
 }
 
 impl Thread {
-    ghost use Rattle.std.specs.Prelude.{◌≡◌, ◌+◌, ◌≤◌, length, map, true, false, not, IsTrue, OnOk, OnErr, IfOk, Ok, Err, []};
-    ghost use Rattle.mon_words.specs.History.{base_in};
+    ghost use Rattle.std.specs.Prelude.{◌≡◌, ◌+◌, ◌≤◌, length, map, true, false, not, IsTrue, OnOk, OnErr, IfOk, Ok, Err};
+    ghost use Rattle.mon_words.specs.History.{after, base_in};
     ghost use Rattle.mon_words.specs.Told.{Sees};
     ghost use Rattle.mon_machine.specs.State.{goes};
-    ghost use Rattle.mon_machine.specs.Run.{Ran, outcome_of};
-    ghost use Rattle.mon_interp.specs.Threads.{beginning, entry_due, AnswersEntry};
+    ghost use Rattle.mon_machine.specs.Run.{Ran};
+    ghost use Rattle.mon_machine.specs.Bare.{IsBare, plain_after};
+    ghost use Rattle.mon_interp.specs.Threads.{beginning, entry_due, reported, AnswersEntry};
 
     /// A thread that calls a code, which has this number in its program, with these arguments.
     pub fn begin(
@@ -153,6 +154,9 @@ impl Thread {
         // the plain machine's steps, each read at its position in the history
         ensures run { OnOk result (Ran program.now (H.told handle.old).first (H.told handle.old).seen (H.told handle.new).seen self.old.progress self.new.progress) }
 
+        // where nothing is wanted nothing is recorded, and the thread goes as far as the plain run does
+        ensures bare { IsBare (after (H.told handle.old).first (H.told handle.old).seen) → OnOk result (self.new.progress ≡ plain_after program.now steps self.old.progress) }
+
         ensures spent { result ≡ Ok Stop.Spent → (goes self.new.progress.state.mode ≡ true) × (self.new.progress.steps ≡ self.old.progress.steps + steps) }
         ensures ended { result ≡ Ok Stop.Ended → goes self.new.progress.state.mode ≡ false }
 
@@ -194,11 +198,7 @@ impl Thread {
 
     /// What is reported of the thread.
     pub fn finish(self) -> ThreadReport
-        ensures records { result.records ≡ self.progress.records }
-        ensures steps { result.steps ≡ self.progress.steps }
-        ensures outcome { result.outcome ≡ outcome_of self.progress.state.mode }
-        ensures printed { result.printed ≡ self.progress.printed }
-        ensures disables { result.disables ≡ [] }
+        ensures { result ≡ reported self.progress }
     {
         self.machine.report()
     }

@@ -1,17 +1,24 @@
 -- The laws of a call's run.
-use Rattle.std.proofs.Common.{◌≡◌, ℕ, zero, suc, List, refl, subst}
+use Rattle.std.proofs.Common.{◌≡◌, ℕ, zero, suc, ◌+◌, true, false, List, [], ◌∷◌, length, drop, arith, refl, sym, subst}
+use Rattle.std.specs.Prelude.{Some}
+use Rattle.std.specs.List.{AllByRecursion}
 use Rattle.mon_values.specs.declared.value.Value.{Value}
 use Rattle.mon_code.specs.declared.program.Code.{Code}
 use Rattle.mon_code.specs.Programs.{Parts}
 use Rattle.mon_code.specs.Checked.{IsChecked}
+use Rattle.mon_frames.specs.declared.frame.Frame.{Frame}
+use Rattle.mon_frames.specs.declared.call.Call.{Call}
+use Rattle.mon_frames.specs.Views.{FramesView, top_of}
+use Rattle.mon_recorders.specs.declared.report.Outcome.{Outcome}
 use Rattle.mon_machine.specs.declared.mode.Mode.{Mode}
-use Rattle.mon_machine.specs.State.{State, start}
+use Rattle.mon_machine.specs.State.{State, start, goes}
 use Rattle.mon_machine.specs.Step.{step}
-use Rattle.mon_machine.specs.Run.{after_steps, is_heard, heard}
+use Rattle.mon_machine.specs.Run.{after_steps, outcome_of, is_heard, heard}
 use Rattle.mon_machine.specs.Serial.{wants_line}
-use Rattle.mon_machine.specs.Laws.{AllRun, IsCall, NeverStuck, LineMarks, ProperEvents, HeardByWants}
-use Rattle.mon_machine.proofs.Fitting.{checked_code}
-use Rattle.mon_machine.proofs.Keeping.{IsIn, Keeps, called_at}
+use Rattle.mon_machine.specs.Laws.{AllRun, IsCall, NeverStuck, FitsDepths, HasDepths, DepthsAsRecorded, LimitsAreBounds, LineMarks, ProperEvents, HeardByWants}
+use Rattle.mon_machine.proofs.Fitting.{FoundAt, found_at, checked_code}
+use Rattle.mon_machine.proofs.Keeping.{IsAt, Waits, Waiting, HasTop, IsOwn, IsIn, Keeps, called_at}
+use Rattle.mon_machine.proofs.Runs.{steps_done_on}
 use Rattle.mon_machine.proofs.Stepping.{step_steps}
 use Rattle.mon_machine.proofs.Heard.{heard_marked, records_of_lines}
 
@@ -30,6 +37,63 @@ call_keeps p k c args call n = run_keeps p (start c k args) n call.runs call.che
 pub never_stuck : NeverStuck
 never_stuck p k c args call n stuck =
     subst (λ (mode : Mode). IsIn p (after_steps p (start c k args) n).frames mode) stuck (call_keeps p k c args call n).stands
+
+-- what is recorded is what a frame has
+depths_at : (p : Parts) (f : Frame) → IsAt p f → FitsDepths p f f.index 0
+depths_at p f at =
+    let place : FoundAt at.code f.index (length f.stack) (length f.handling) = found_at at.code f.index (length f.stack) (length f.handling) at.depth in
+    record { code = at.code; found = at.is_of.found; location = place.location; stands = place.stands; stack = omega (arith, place.stack); handling = sym place.handling }
+
+depths_behind : (p : Parts) (f : Frame) → Waits p f → FitsDepths p f (f.index + 1) 1
+depths_behind p f w =
+    let place : FoundAt w.code (f.index + 1) (1 + length f.stack) (length f.handling) = found_at w.code (f.index + 1) (1 + length f.stack) (length f.handling) w.next in
+    record { code = w.code; found = w.is_of.found; location = place.location; stands = place.stands; stack = sym place.stack; handling = sym place.handling }
+
+abbrev Behind : Parts → List Call → Type 0
+Behind p calls = AllByRecursion (λ (call : Call). FitsDepths p call.frame (call.frame.index + 1) 1) calls
+
+all_behind : (p : Parts) (calls : List Call) → Waiting p calls → Behind p calls
+all_behind p [] w = tt
+all_behind p (call ∷ calls) w = (depths_behind p call.frame w.1, all_behind p calls w.2)
+
+below_top : (p : Parts) (Is : Frame → Type 0) (calls : List Call) → HasTop p Is calls → Behind p (drop 1 calls)
+below_top p Is [] h = absurd h
+below_top p Is (call ∷ calls) h = all_behind p calls h.2
+
+top_depths : (p : Parts) (calls : List Call) → HasTop p (IsAt p) calls → (f : Frame) × (top_of calls ≡ Some f) × FitsDepths p f f.index 0
+top_depths p [] h = absurd h
+top_depths p (call ∷ calls) h = (call.frame, refl, depths_at p call.frame h.1)
+
+depths_in : (p : Parts) (v : FramesView) (mode : Mode) → IsIn p v mode → HasDepths p (record { frames = v; mode = mode })
+depths_in p v Mode.Run is = record { top = λ e. top_depths p v.calls is; callers = λ e. below_top p (IsAt p) v.calls is }
+depths_in p v (Mode.Unwind x) is = record { top = λ e. absurd (cc); callers = λ e. below_top p _ v.calls is }
+depths_in p v (Mode.Ended outcome) is = record { top = λ e. absurd (cc); callers = λ e. let h : false ≡ true = e in absurd (cc) }
+depths_in p v Mode.Stuck is = absurd is
+
+pub depths_as_recorded : DepthsAsRecorded
+depths_as_recorded p k c args call n =
+    let s : State = after_steps p (start c k args) n in
+    depths_in p s.frames s.mode (call_keeps p k c args call n).stands
+
+-- a mode in which a run stands has the limit for its outcome where it goes on
+limit_goes : (p : Parts) (v : FramesView) (mode : Mode) → IsIn p v mode → outcome_of mode ≡ Outcome.Limit → goes mode ≡ true
+limit_goes p v Mode.Run is e = refl
+limit_goes p v (Mode.Unwind x) is e = refl
+limit_goes p v (Mode.Ended outcome) is e = absurd (subst IsOwn e is)
+limit_goes p v Mode.Stuck is e = absurd is
+
+goes_limit : (mode : Mode) → goes mode ≡ true → outcome_of mode ≡ Outcome.Limit
+goes_limit Mode.Run e = refl
+goes_limit (Mode.Unwind x) e = refl
+goes_limit (Mode.Ended outcome) e = let h : false ≡ true = e in absurd (cc)
+goes_limit Mode.Stuck e = refl
+
+pub limits_are_bounds : LimitsAreBounds
+limits_are_bounds p k c args call n =
+    let s : State = start c k args in
+    let here : State = after_steps p s n in
+    let on : outcome_of here.mode ≡ Outcome.Limit → goes here.mode ≡ true = limit_goes p here.frames here.mode (call_keeps p k c args call n).stands in
+    record { reached = λ e. (on e, steps_done_on p s n (on e)); otherwise = goes_limit here.mode }
 
 pub line_marks : LineMarks
 line_marks p k c args call n = (step_steps p (after_steps p (start c k args) n) call.runs call.checked (call_keeps p k c args call n)).marks

@@ -19,6 +19,7 @@ use Rattle.mon_frames.specs.declared.call.Origin.TheVariants.{Plain, Generator a
 use Rattle.mon_frames.specs.Calls.{called}
 use Rattle.mon_frames.specs.Items.{lowest}
 use Rattle.mon_frames.specs.Views.{FramesView}
+use Rattle.mon_recorders.specs.declared.report.Outcome.{Outcome}
 use Rattle.mon_machine.specs.declared.mode.Mode.{Mode}
 use Rattle.mon_machine.specs.State.{State}
 use Rattle.mon_machine.specs.Step.{caught_in}
@@ -74,10 +75,16 @@ abbrev pub HasTop : Parts → (Frame → Type 0) → List Call → Type 0
 HasTop p Is [] = ⊥
 HasTop p Is (call ∷ calls) = IsPlain call.origin × Is call.frame × Waiting p calls
 
+-- a thread that has ended has an outcome of its own
+abbrev pub IsOwn : Outcome → Type 0
+IsOwn (Outcome.Returned x) = Unit {0}
+IsOwn (Outcome.Raised e) = Unit {0}
+IsOwn Outcome.Limit = ⊥
+
 abbrev pub IsIn : Parts → FramesView → Mode → Type 0
 IsIn p v Mode.Run = HasTop p (IsAt p) v.calls
 IsIn p v (Mode.Unwind e) = HasTop p (IsThrown p) v.calls
-IsIn p v (Mode.Ended outcome) = Unit {0}
+IsIn p v (Mode.Ended outcome) = IsOwn outcome
 IsIn p v Mode.Stuck = ⊥
 
 -- the states of a thread without generators

@@ -1,5 +1,5 @@
 -- What runs print, step by step.
-use Rattle.std.proofs.Common.{◌≡◌, ℕ, zero, suc, ◌+◌, Bool, true, false, List, [], ◌++◌, refl, sym, ap, ◌∙◌, add-one, append_assoc, append-nil}
+use Rattle.std.proofs.Common.{◌≡◌, ℕ, zero, suc, ◌+◌, Bool, true, false, List, [], ◌++◌, refl, sym, ap, ◌∙◌, arith, add-one, append_assoc, append-nil}
 use Rattle.std.specs.Prelude.{if◌then◌else◌}
 use Rattle.mon_code.specs.Programs.{Parts}
 use Rattle.mon_frames.specs.Views.{FramesView}
@@ -7,7 +7,8 @@ use Rattle.mon_machine.specs.declared.mode.Mode.{Mode}
 use Rattle.mon_machine.specs.State.{State, goes}
 use Rattle.mon_machine.specs.Step.{step, in_mode}
 use Rattle.mon_machine.specs.Run.{after_steps, steps_done, printed_by}
-use Rattle.mon_machine.proofs.Runs.{stands_still}
+use Rattle.mon_machine.specs.Laws.{RunsAddUp}
+use Rattle.mon_machine.proofs.Runs.{after_steps_sum, stands_still, stands_still_on}
 
 pub printed_none : (p : Parts) (s : State) → printed_by p s 0 ≡ []
 unfolding printed_by
@@ -57,3 +58,25 @@ printed_done p s (suc n) = pick (goes s.mode) refl (printed_done p (step p s).af
         → printed_by p s (if b then steps_done p (step p s).after n + 1 else 0) ≡ (step p s).printed ++ printed_by p (step p s).after n
     pick true e h = printed_more p s (steps_done p (step p s).after n) ∙ ap (λ (texts : List (List ℕ)). (step p s).printed ++ texts) h
     pick false e h = sym (printed_ended p s (suc n) e)
+
+-- what some steps print, and then some more
+printed_sum : (p : Parts) (s : State) (m n : ℕ) → printed_by p s (m + n) ≡ printed_by p s m ++ printed_by p (after_steps p s m) n
+unfolding printed_by after_steps
+printed_sum p s zero n =
+    let e : 0 + n ≡ n = omega arith in
+    ap (λ (k : ℕ). printed_by p s k) e
+printed_sum p s (suc m) n =
+    let e : suc m + n ≡ suc (m + n) = omega arith in
+    let here = (step p s).printed in
+    let t : State = (step p s).after in
+    ap (λ (k : ℕ). printed_by p s k) e
+    ∙ ap (λ (texts : List (List ℕ)). here ++ texts) (printed_sum p t m n)
+    ∙ sym (append_assoc here (printed_by p t m) (printed_by p (after_steps p t m) n))
+
+pub runs_add_up : RunsAddUp
+runs_add_up p s m n = record {
+  state = after_steps_sum p s m n;
+  printed = printed_sum p s m n;
+  still = λ e. after_steps_sum p s m n ∙ stands_still_on p (after_steps p s m) n e;
+  silent = λ e. printed_sum p s m n ∙ ap (λ (texts : List (List ℕ)). printed_by p s m ++ texts) (printed_ended p (after_steps p s m) n e) ∙ append-nil (printed_by p s m);
+}

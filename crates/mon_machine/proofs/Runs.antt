@@ -146,6 +146,19 @@ pub nothing_happens : (p : Parts) (s : State) → goes s.mode ≡ false → (ste
 unfolding step
 nothing_happens p s e = silent p s.frames s.mode e
 
+-- a thread that goes on after n steps did them all
+pub steps_done_on : (p : Parts) (s : State) (n : ℕ) → goes (after_steps p s n).mode ≡ true → steps_done p s n ≡ n
+unfolding steps_done after_steps
+steps_done_on p s zero on = refl
+steps_done_on p s (suc n) on = pick (goes s.mode) refl (steps_done_on p (step p s).after n on)
+  where
+    pick : (b : Bool) → goes s.mode ≡ b → steps_done p (step p s).after n ≡ n → (if b then steps_done p (step p s).after n + 1 else 0) ≡ suc n
+    pick true e rest = omega (arith, rest)
+    pick false e rest =
+        let same : after_steps p s (suc n) ≡ s = stands_still_on p s (suc n) e in
+        let h : true ≡ false = sym on ∙ ap (λ (t : State). goes t.mode) same ∙ e in
+        cc
+
 pub is_run : GoesOnByOne
 is_run p s n = record {
   one_more = one_more p s n;

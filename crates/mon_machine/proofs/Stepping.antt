@@ -114,7 +114,7 @@ step_in p (call ∷ calls) its (Mode.Unwind e) runs checked at = record {
   marks = unwinds_marked p (record { calls = call ∷ calls; generators = []; iterators = its }) e (call ∷ calls);
   proper = unwinds_proper p (record { calls = call ∷ calls; generators = []; iterators = its }) e (call ∷ calls);
 }
-step_in p calls its (Mode.Ended outcome) runs checked at = record { keeps = record { generators = refl; stands = tt }; marks = tt; proper = tt }
+step_in p calls its (Mode.Ended outcome) runs checked at = record { keeps = record { generators = refl; stands = at }; marks = tt; proper = tt }
 step_in p calls its Mode.Stuck runs checked at = absurd at
 
 pub step_steps : (p : Parts) (s : State) → AllRun p → IsChecked p → Keeps p s → Steps p (step p s)

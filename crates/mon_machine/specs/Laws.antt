@@ -1,5 +1,5 @@
 -- The laws of the plain machine.
-use Rattle.std.specs.Prelude.{ℕ, ◌+◌, ◌≤◌, ◌≡◌, Bool, true, false, List, [], length, Some, slice_get}
+use Rattle.std.specs.Prelude.{ℕ, ◌+◌, ◌≤◌, ◌≡◌, Bool, true, false, List, [], ◌++◌, length, drop, Some, slice_get}
 use Rattle.std.specs.List.{AllByRecursion}
 use Rattle.mon_values.specs.declared.value.Value.{Value}
 use Rattle.mon_events.specs.declared.event.Event.{Event}
@@ -12,13 +12,17 @@ use Rattle.mon_code.specs.Checked.{IsChecked}
 use Rattle.mon_code.specs.Sites.{sites_of}
 use Rattle.mon_recorders.specs.Proper.{AreProper}
 use Rattle.mon_words.specs.declared.history.Board.{Board}
+use Rattle.mon_frames.specs.declared.frame.Frame.{Frame}
+use Rattle.mon_frames.specs.declared.call.Call.{Call}
+use Rattle.mon_frames.specs.Views.{top_of}
+use Rattle.mon_recorders.specs.declared.report.Outcome.{Outcome}
 use Rattle.mon_recorders.specs.declared.happening.Happening.{Happening}
 use Rattle.mon_recorders.specs.declared.happening.Kind.{Kind}
 use Rattle.mon_recorders.specs.declared.happening.Kind.TheVariants.{Local, Global, Ancillary}
 use Rattle.mon_machine.specs.declared.mode.Mode.{Mode}
 use Rattle.mon_machine.specs.State.{State, goes, start}
 use Rattle.mon_machine.specs.Step.{step}
-use Rattle.mon_machine.specs.Run.{after_steps, steps_done, Goes, is_line, is_heard, heard, records_of}
+use Rattle.mon_machine.specs.Run.{after_steps, steps_done, printed_by, outcome_of, Goes, is_line, is_heard, heard, records_of}
 use Rattle.mon_machine.specs.Serial.{wants_line, line_records, HasLineWants}
 
 -- a run goes on by one step; a thread that goes on before each of n steps does n of them; where it then does not go on,
@@ -31,6 +35,17 @@ pub record IsRun (p : Parts) (s : State) (n : ℕ) : Type 0 where
 
 abbrev pub GoesOnByOne : Type 0
 GoesOnByOne = (p : Parts) (s : State) (n : ℕ) → IsRun p s n
+
+-- some steps and then more: where they lead and what they print; where the thread does not go on after the first, the
+-- others do nothing
+pub record IsSum (p : Parts) (s : State) (m n : ℕ) : Type 0 where
+  pub state : after_steps p s (m + n) ≡ after_steps p (after_steps p s m) n
+  pub printed : printed_by p s (m + n) ≡ printed_by p s m ++ printed_by p (after_steps p s m) n
+  pub still : goes (after_steps p s m).mode ≡ false → after_steps p s (m + n) ≡ after_steps p s m
+  pub silent : goes (after_steps p s m).mode ≡ false → printed_by p s (m + n) ≡ printed_by p s m
+
+abbrev pub RunsAddUp : Type 0
+RunsAddUp = (p : Parts) (s : State) (m n : ℕ) → IsSum p s m n
 
 -- the opcodes that the machine runs so far: all but those of generators
 abbrev pub runs : Op → Bool
@@ -52,6 +67,33 @@ pub record IsCall (p : Parts) (k : ℕ) (c : Code) (args : List Value) : Type 0 
 -- no operand, no local and no location is ever missing
 abbrev pub NeverStuck : Type 0
 NeverStuck = (p : Parts) (k : ℕ) (c : Code) (args : List Value) → IsCall p k c args → (n : ℕ) → ¬ ((after_steps p (start c k args) n).mode ≡ Mode.Stuck)
+
+-- a frame that has so many values more on its operand stack has the depths that its code records at an index
+pub record FitsDepths (p : Parts) (f : Frame) (index more : ℕ) : Type 0 where
+  pub code : Code
+  pub found : slice_get p.codes f.code ≡ Some code
+  pub location : Location
+  pub stands : location_at code index ≡ Some location
+  pub stack : more + length f.stack ≡ location.stack
+  pub handling : length f.handling ≡ location.handling
+
+-- before an instruction the top frame has the depths that are recorded there; each frame below waits for one value, with
+-- which it has those of the index behind its call
+pub record HasDepths (p : Parts) (s : State) : Type 0 where
+  pub top : s.mode ≡ Mode.Run → (f : Frame) × (top_of s.frames.calls ≡ Some f) × FitsDepths p f f.index 0
+  pub callers : goes s.mode ≡ true → AllByRecursion (λ (call : Call). FitsDepths p call.frame (call.frame.index + 1) 1) (drop 1 s.frames.calls)
+
+-- at each step of a call the depths are as they are recorded
+abbrev pub DepthsAsRecorded : Type 0
+DepthsAsRecorded = (p : Parts) (k : ℕ) (c : Code) (args : List Value) → IsCall p k c args → (n : ℕ) → HasDepths p (after_steps p (start c k args) n)
+
+-- a run has the limit for its outcome exactly where the thread still goes on after n steps, all of which it did
+pub record LimitIsBound (p : Parts) (s : State) (n : ℕ) : Type 0 where
+  pub reached : outcome_of (after_steps p s n).mode ≡ Outcome.Limit → (goes (after_steps p s n).mode ≡ true) × (steps_done p s n ≡ n)
+  pub otherwise : goes (after_steps p s n).mode ≡ true → outcome_of (after_steps p s n).mode ≡ Outcome.Limit
+
+abbrev pub LimitsAreBounds : Type 0
+LimitsAreBounds = (p : Parts) (k : ℕ) (c : Code) (args : List Value) → IsCall p k c args → (n : ℕ) → LimitIsBound p (start c k args) n
 
 -- what happens stands at a marked location of its code, and has the line of that location
 pub record AtMarked (p : Parts) (h : Happening) : Type 0 where

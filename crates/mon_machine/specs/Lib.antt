@@ -5,4 +5,5 @@ pub mod Events
 pub mod Step
 pub mod Run
 pub mod Serial
+pub mod Bare
 pub mod Laws

@@ -1,14 +1,30 @@
-ghost use Rattle.mon_machine.specs.Laws.{GoesOnByOne, HeardByWants, LineMarks, NeverStuck, ProperEvents};
+ghost use Rattle.mon_machine.specs.Laws.{DepthsAsRecorded, GoesOnByOne, HeardByWants, LimitsAreBounds, LineMarks, NeverStuck, ProperEvents, RunsAddUp};
 
 /// A run goes on step by step, and a thread that does not go on stands still.
 pub fn goes_on_by_one()
     ensures { GoesOnByOne }
 {}
 
+/// A run of some steps and then of more is that of their sum, in its states and in what it prints.
+pub fn runs_add_up()
+    ensures { RunsAddUp }
+{}
+
 /// A thread that calls a code of a checked program with the right number of arguments never misses an operand, a local
 /// or a location, if the program has no opcode but those that are run so far.
 pub fn never_stuck()
     ensures { NeverStuck }
+{}
+
+/// Before each instruction of such a thread, the top frame's operand stack and handling list have the depths that are
+/// recorded at its location. Each frame below has one value less than is recorded behind its call.
+pub fn depths_as_recorded()
+    ensures { DepthsAsRecorded }
+{}
+
+/// Such a thread has the outcome `Limit` after a number of steps exactly where it did them all and still goes on.
+pub fn limits_are_bounds()
+    ensures { LimitsAreBounds }
 {}
 
 /// LINE events of such a thread occur at marked locations alone.

@@ -4,5 +4,8 @@
 mod laws;
 mod mode;
 
-pub use laws::{goes_on_by_one, heard_by_wants, line_marks, never_stuck, proper_events};
+pub use laws::{
+    depths_as_recorded, goes_on_by_one, heard_by_wants, limits_are_bounds, line_marks, never_stuck,
+    proper_events, runs_add_up,
+};
 pub use mode::{Ending, Mode};

@@ -11,7 +11,7 @@ use Rattle.mon_compile.specs.Faults.{compile_fault}
 use Rattle.mon_compile.specs.Modules as modules
 use Rattle.mon_main.specs.Outside.{Writes}
 use Rattle.mon_main.specs.Plans.{plan_of}
-use Rattle.mon_main.specs.Serial.{serial_of}
+use Rattle.mon_main.specs.Serial.{serial_of, LimitAtBound}
 use Rattle.mon_main.specs.Sources.{misspelled_line, underived_line, uncompiled_line}
 use Rattle.mon_main.specs.Texts.{report_text}
 use Rattle.mon_main.specs.declared.plan.Plan.{Plan}
@@ -93,6 +93,15 @@ abbrev pub program_in : Reading → Option Parts
 program_in (Misspelled f) = None
 program_in (Underived line) = None
 program_in (Parsed m) = program_of m
+
+-- the report of a plan was written, which says `limit` exactly where the plan's bound came first
+pub record Reports (reading : Reading) (text : List ℕ) (old new : Option (List ℕ)) : Type 0 where
+  pub program : Parts
+  pub plan : Plan
+  pub has_program : program_in reading ≡ Some program
+  pub is_plan : plan_of program text ≡ Some plan
+  pub written : Writes old (replayed program plan) new
+  pub limit : LimitAtBound program plan
 
 abbrev pub TellsPlan : Option Parts → Option (List ℕ) → List ℕ → Type 0
 TellsPlan None told plan = Unit {0}

@@ -1,5 +1,5 @@
 -- The serial run of a plan: the plain run of its thread, of which the plan's tool hears the LINE events.
-use Rattle.std.specs.Prelude.{ℕ, List, [], ◌∷◌, map, Option, Some, None, slice_get, slice_index, ◌^◌, if◌then◌else◌}
+use Rattle.std.specs.Prelude.{◌≡◌, ℕ, Bool, true, false, List, [], ◌∷◌, map, Option, Some, None, slice_get, slice_index, ◌^◌, if◌then◌else◌}
 use Rattle.mon_values.specs.declared.value.Value.{Int}
 use Rattle.mon_code.specs.declared.program.Code.{Code}
 use Rattle.mon_code.specs.declared.program.Location.{Location}
@@ -7,7 +7,8 @@ use Rattle.mon_code.specs.Programs.{Parts}
 use Rattle.mon_words.specs.Words.{word_of, normal}
 use Rattle.mon_recorders.specs.declared.record.Record.{Record}
 use Rattle.mon_recorders.specs.declared.report.Outcome.{Outcome}
-use Rattle.mon_machine.specs.State.{State, start}
+use Rattle.mon_recorders.specs.declared.report.ThreadReport.{ThreadReport}
+use Rattle.mon_machine.specs.State.{State, goes, start}
 use Rattle.mon_machine.specs.Run.{after_steps, steps_done, printed_by, outcome_of}
 use Rattle.mon_machine.specs.Serial.{line_records, of_codes}
 use Rattle.mon_main.specs.declared.plan.Plan.{Plan}
@@ -34,6 +35,23 @@ serial_in p plan (Some c) = serial_from p plan.tool plan.steps (start c plan.cod
 
 unfoldable pub serial_of : Parts → Plan → Serial
 serial_of p plan = serial_in p plan (slice_get p.codes plan.code)
+
+-- what is reported of the run; nothing was disabled
+abbrev pub report_of : Serial → ThreadReport
+report_of s = record { printed = s.printed; records = s.records; disables = []; steps = s.steps; outcome = s.outcome }
+
+abbrev pub goes_in : Parts → Plan → Option Code → Bool
+goes_in p plan None = false
+goes_in p plan (Some c) = goes (after_steps p (start c plan.code (map Int plan.args)) plan.steps).mode
+
+-- whether the plan's thread still goes on after as many steps as the plan allows
+unfoldable pub goes_at_bound : Parts → Plan → Bool
+goes_at_bound p plan = goes_in p plan (slice_get p.codes plan.code)
+
+-- the outcome is the limit exactly where the plan's bound came first: the thread did as many steps, and still goes on
+pub record LimitAtBound (p : Parts) (plan : Plan) : Type 0 where
+  pub reached : (serial_of p plan).outcome ≡ Outcome.Limit → (goes_at_bound p plan ≡ true) × ((serial_of p plan).steps ≡ plan.steps)
+  pub otherwise : goes_at_bound p plan ≡ true → (serial_of p plan).outcome ≡ Outcome.Limit
 
 -- the word of a location before any step: LINE is wanted for the tool where the location is marked, all bits are live, and
 -- in place stands the opcode that these need

@@ -2,7 +2,7 @@ ghost use Rattle.std.specs.Prelude.{◌≡◌, ◌⊎◌, ℕ, List, None};
 ghost use Rattle.mon_parser.specs.Texts.{Reading};
 ghost use Rattle.mon_main.specs.Commands.{replay_of, texts};
 ghost use Rattle.mon_main.specs.Outside.{Rose, Writes, WritesPrefix};
-ghost use Rattle.mon_main.specs.Answer.{answer, usage_line, FailedRead, Gives, Tells};
+ghost use Rattle.mon_main.specs.Answer.{answer, usage_line, FailedRead, Gives, Reports, Tells};
 
 use crate::reply::reply_to;
 use crate::sink::{Sink, write_all};
@@ -24,6 +24,9 @@ pub fn host_serial<S: Store, K: Sink>(
     // a status that has a text comes with the whole of it
     ensures done { (reading : Reading) (plan : List ℕ) → Tells (replay_of (texts words.now)) (S.holds store.old) reading plan → result ≡ Status.Done →
         Gives (answer (texts words.now) reading plan) Status.Done (K.written out.old) (K.written out.new) }
+    // a report says `limit` exactly where the plan's bound came first
+    ensures limit { (reading : Reading) (plan : List ℕ) → Tells (replay_of (texts words.now)) (S.holds store.old) reading plan → result ≡ Status.Done →
+        Reports reading plan (K.written out.old) (K.written out.new) }
     ensures not_built { (reading : Reading) (plan : List ℕ) → Tells (replay_of (texts words.now)) (S.holds store.old) reading plan → result ≡ Status.NotBuilt →
         Gives (answer (texts words.now) reading plan) Status.NotBuilt (K.written out.old) (K.written out.new) }
     ensures source { (reading : Reading) (plan : List ℕ) → Tells (replay_of (texts words.now)) (S.holds store.old) reading plan → result ≡ Status.Source →

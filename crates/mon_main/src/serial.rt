@@ -1,4 +1,4 @@
-ghost use Rattle.std.specs.Prelude.{◌≡◌, ◌<◌, ◌≤◌, ◌-◌, ◌++◌, [], length, map, OnOk, IfOk};
+ghost use Rattle.std.specs.Prelude.{◌≡◌, ◌<◌, ◌≤◌, ◌-◌, ◌++◌, length, map, OnOk, IfOk};
 ghost use Rattle.mon_values.specs.declared.value.Value.{Int};
 ghost use Rattle.mon_code.specs.Checked.{IsChecked};
 ghost use Rattle.mon_words.specs.Standing.{board_of};
@@ -6,7 +6,7 @@ ghost use Rattle.mon_board.specs.Plain.{first_plain};
 ghost use Rattle.mon_machine.specs.Laws.{AllRun};
 ghost use Rattle.mon_machine.specs.Serial.{of_locations};
 ghost use Rattle.mon_main.specs.Plans.{plan_fits};
-ghost use Rattle.mon_main.specs.Serial.{serial_of, line_word, words_of_run};
+ghost use Rattle.mon_main.specs.Serial.{report_of, serial_of, line_word, words_of_run};
 
 use crate::plan::Plan;
 use mon_board::PlainBoard;
@@ -101,7 +101,7 @@ fn values(alloc: Global, args: &[i64]) -> Result<Items<Value>, AllocError>
     Ok(values)
 }
 
-/// Runs the plan's thread over words of its own, and reports it. It disables nothing.
+/// Runs the plan's thread over words of its own, and reports it.
 pub fn run_serial(
     alloc: Global,
     program: &Program,
@@ -111,8 +111,7 @@ pub fn run_serial(
     requires runs { AllRun program.now }
     requires fits { plan_fits program.now plan.now }
     requires bases { bases.now ≡ program.now.bases }
-    ensures serial { IfOk result (λ r. (r.printed ≡ (serial_of program.now plan.now).printed) × (r.records ≡ (serial_of program.now plan.now).records) × (r.steps ≡ (serial_of program.now plan.now).steps) × (r.outcome ≡ (serial_of program.now plan.now).outcome)) }
-    ensures disables { IfOk result (λ r. r.disables ≡ []) }
+    ensures { IfOk result (λ r. r ≡ report_of (serial_of program.now plan.now)) }
 {
     let Some(code) = program.code(plan.code) else {
         unreachable!()

@@ -21,7 +21,7 @@ use Rattle.mon_board.specs.declared.plain_view.PlainView.{PlainView}
 use Rattle.mon_interp.specs.Threads.{ThreadView}
 use Rattle.mon_interp.specs.declared.thread.Stop.{Stop}
 use Rattle.mon_main.specs.declared.plan.Plan.{Plan}
-use Rattle.mon_main.specs.Serial.{Serial, words_of_run}
+use Rattle.mon_main.specs.Serial.{report_of, words_of_run}
 use Rattle.mon_main.proofs.Serials.{serial_ran, serial_found, stops, fits_parameters, first_words-want, first_words-bases, no_marks}
 use Rattle.mon_main.proofs.serial.run_serial.Goals as goal
 
@@ -58,8 +58,8 @@ advance-requires-clause-bases c =
     let is = first p tool c.try_enter.new.self.board.now.chair.me.0 c.in_ok-board.board c.handle-handle.result.board.now c.in_ok-board.ensures.view c.handle-handle.ensures.view (ap (λ (b : PlainBoard). b.chair.me.0) c.try_enter.ensures.value.0) in
     ap (λ (b : Board). map base_in b.cells) is ∙ first_words-bases p tool c.first_board.ensures.checked c.requires.fits.tool small
 
-pub returns-in-Ok-advance-clause-serial : goal.returns-in-Ok-advance-clause-serial
-returns-in-Ok-advance-clause-serial c =
+pub returns-in-Ok-advance : goal.returns-in-Ok-advance
+returns-in-Ok-advance c =
     let p : Parts = c.args.program.now in
     let plan : Plan = c.args.plan.now in
     let code : Code = c.in-Some.code.now in
@@ -87,4 +87,4 @@ returns-in-Ok-advance-clause-serial c =
     let run : Ran p (board_of (words_of_run p plan.tool)) [] [] old new = subst (λ (z : Board × List Mark × List Mark). Ran p z.0 z.1 z.2 old new) (λ i. (board i, before i, after i)) c.in-Ok-advance.ensures.run in
     let wants = first_words-want p plan.tool c.first_board.ensures.checked c.requires.fits.tool small in
     let ran = serial_ran p plan.code code (map Int plan.args) plan.tool (board_of (words_of_run p plan.tool)) old new plan.steps call wants begins run ends c.in-Ok-advance.ensures.counted.1 ∙ sym (serial_found p plan code found) in
-    (c.finish.ensures.printed ∙ ap (λ (s : Serial). s.printed) ran, c.finish.ensures.records ∙ ap (λ (s : Serial). s.records) ran, c.finish.ensures.steps ∙ ap (λ (s : Serial). s.steps) ran, c.finish.ensures.outcome ∙ ap (λ (s : Serial). s.outcome) ran)
+    c.finish.ensures ∙ ap report_of ran
