@@ -1,7 +1,6 @@
 -- Events stand where their kinds say.
-use Rattle.std.proofs.Common.{◌≡◌, ℕ, zero, suc, ◌+◌, ◌<◌, ◌==◌, Bool, true, false, ◌⊎◌, inl, inr, List, [], ◌∷◌, ◌++◌, length, get_or, refl, sym, ap, subst, ◌∙◌, arith}
+use Rattle.std.proofs.Common.{◌≡◌, ℕ, zero, suc, ◌+◌, ◌<◌, ◌==◌, Bool, true, false, ◌⊎◌, inl, inr, List, [], ◌∷◌, ◌++◌, length, get_or, refl, sym, ap, ◌∙◌, arith}
 use Rattle.std.specs.Prelude.{Option, Some, None, slice_get, Result, Ok, Err, if◌then◌else◌}
-use Rattle.std.specs.List.{AllByRecursion}
 use Rattle.mon_values.specs.declared.value.Value.{Value}
 use Rattle.mon_values.specs.declared.value.Value.TheOpen.{Value-F}
 use Rattle.mon_values.specs.declared.value.Value.TheViews.{out-Value}
@@ -30,7 +29,7 @@ use Rattle.mon_frames.specs.Iterating.{iterated}
 use Rattle.mon_frames.specs.Views.{FramesView, handled_in, without_top}
 use Rattle.mon_recorders.specs.declared.happening.Happening.{Happening}
 use Rattle.mon_recorders.specs.declared.happening.Kind.TheVariants.{Local}
-use Rattle.mon_recorders.specs.Proper.{IsOfSlot, IsOfCall, IsProper, AreProper}
+use Rattle.mon_recorders.specs.Proper.{IsOfSlot, IsProper, AreProper}
 use Rattle.mon_machine.specs.declared.mode.Ending.{Ending}
 use Rattle.mon_machine.specs.State.{FrameMove, Move, with_frame, in_top}
 use Rattle.mon_machine.specs.Moves.{with_stack, get_iter, iterates, for_iter, for_iter_at, for_generator, raises_again, return_value, operated, effect}

@@ -1,5 +1,5 @@
 -- Runs, and what a tool hears of them.
-use Rattle.std.specs.Prelude.{ℕ, zero, suc, ◌+◌, ◌≤◌, ◌≡◌, Bool, true, false, ◌&&◌, List, [], ◌∷◌, ◌++◌, length, take, if◌then◌else◌}
+use Rattle.std.specs.Prelude.{ℕ, zero, suc, ◌+◌, ◌≡◌, Bool, true, false, ◌&&◌, List, [], ◌∷◌, ◌++◌, length, take, if◌then◌else◌}
 use Rattle.mon_events.specs.declared.event.Slot.{Slot}
 use Rattle.mon_code.specs.Programs.{Parts}
 use Rattle.mon_words.specs.Words.{is_enabled}
