@@ -4,3 +4,4 @@ pub mod Depths
 pub mod Checked
 pub mod Waiting
 pub mod Operators
+pub mod Sites

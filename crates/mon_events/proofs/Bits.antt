@@ -141,3 +141,12 @@ packed_more f n m e = ap (packed f) e
 pub packed_none : (f : ℕ → Bool) → 0 ≡ packed f 0
 unfolding packed
 packed_none f = refl
+
+pub place_slot : (s : Slot) (tool : ℕ) → tool < 6 → slot_of (place s tool) ≡ s
+place_slot s tool low = slot_back s tool (place s tool) low refl
+
+pub place_tool : (s : Slot) (tool : ℕ) → tool < 6 → tool_of (place s tool) ≡ tool
+place_tool s tool low = let a : slot_number (slot_of (place s tool)) ≡ slot_number s = ap slot_number (place_slot s tool low) in omega (arith, a)
+
+pub place_back : (k : ℕ) → place (slot_of k) (tool_of k) ≡ k
+place_back k = omega (arith, slot_low k)

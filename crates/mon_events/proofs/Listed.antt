@@ -1,7 +1,8 @@
 -- Sets of events by their bits.
-use Rattle.std.proofs.Common.{◌≡◌, ℕ, ◌^◌, ◌<◌, Bool, refl, ap, ◌∙◌, arith}
-use Rattle.mon_events.specs.Events.{bit, events, event_at}
-use Rattle.mon_events.specs.Sets.{packed, has, set_of}
+use Rattle.std.proofs.Common.{◌≡◌, ◌^◌, ◌<◌, Bool, Some, refl, ap, ◌∙◌, arith}
+use Rattle.mon_events.specs.Events.{bit, events, event_at, name_of}
+use Rattle.mon_events.specs.Names.{event_named}
+use Rattle.mon_events.specs.Sets.{has, set_of}
 use Rattle.mon_events.specs.declared.event.Event.{Event}
 use Rattle.mon_events.proofs.Bits.{packed_lt, packed_bit}
 
@@ -50,3 +51,22 @@ set_bit f e = packed_bit (λ b. f (event_at b)) events (bit e) (bit_lt e) ∙ ap
 
 pub set_lt : (f : Event → Bool) → set_of f < 2 ^ events
 set_lt f = packed_lt (λ b. f (event_at b)) events
+
+pub name_back : (e : Event) → event_named (name_of e) ≡ Some e
+name_back Event.Branch = refl
+name_back Event.Call = refl
+name_back Event.CRaise = refl
+name_back Event.CReturn = refl
+name_back Event.ExceptionHandled = refl
+name_back Event.Instruction = refl
+name_back Event.Jump = refl
+name_back Event.Line = refl
+name_back Event.PyResume = refl
+name_back Event.PyReturn = refl
+name_back Event.PyStart = refl
+name_back Event.PyThrow = refl
+name_back Event.PyUnwind = refl
+name_back Event.PyYield = refl
+name_back Event.Raise = refl
+name_back Event.Reraise = refl
+name_back Event.StopIteration = refl

@@ -16,14 +16,15 @@ use Rattle.mon_words.specs.declared.history.Board.{Board}
 use Rattle.mon_words.specs.declared.history.Cell.{Cell}
 use Rattle.mon_words.specs.Words.{enabled_in, is_bit, is_enabled}
 use Rattle.mon_words.specs.History.{cell_at}
-use Rattle.mon_recorders.specs.Happenings.{Kind, Local, Global, Ancillary}
+use Rattle.mon_recorders.specs.declared.happening.Kind.{Kind}
+use Rattle.mon_recorders.specs.declared.happening.Kind.TheVariants.{Local, Global, Ancillary}
 use Rattle.mon_machine.specs.Laws.{is_line_kind}
 use Rattle.mon_frames.specs.declared.frame.Frame.{Frame}
 use Rattle.mon_frames.specs.Views.{FramesView}
 use Rattle.mon_machine.specs.Step.{executed}
+use Rattle.mon_recorders.proofs.Folds.{for_tools_never}
 use Rattle.mon_machine.specs.Run.{is_heard, heard}
 use Rattle.mon_recorders.specs.Happenings.{record_of}
-use Rattle.mon_machine.proofs.Bare.{no_records}
 use Rattle.mon_machine.proofs.Heard.{LineAlone, is_heard-line_alone, heard_executed, line_events_same}
 use Rattle.mon_interp.specs.Heard.{cell_hears}
 
@@ -76,7 +77,7 @@ disabled c t e h =
 
 quiet_line : (c : Cell) (i location : ℕ) (f : Frame) (line : ℕ) → nat_lt 0 (enabled_in c 0) ≡ false → heard (cell_hears c) i (happens Event.Line (Local location slot.Line) f line ∷ []) ≡ []
 quiet_line c i location f line e =
-    append-nil _ ∙ no_records (cell_hears c (Local location slot.Line)) (record_of i (happens Event.Line (Local location slot.Line) f line)) 6 (λ t h. disabled c t e h)
+    append-nil _ ∙ for_tools_never (cell_hears c (Local location slot.Line)) (record_of i (happens Event.Line (Local location slot.Line) f line)) 6 (λ t h. disabled c t e h)
 
 quiet_choice : (c : Cell) (i location : ℕ) (f : Frame) (line : ℕ) (same : Bool) → nat_lt 0 (enabled_in c 0) ≡ false → heard (cell_hears c) i (if same then [] else happens Event.Line (Local location slot.Line) f line ∷ []) ≡ []
 quiet_choice c i location f line true e = refl

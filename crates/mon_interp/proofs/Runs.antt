@@ -10,7 +10,8 @@ use Rattle.mon_words.specs.Told.{Told, Sees}
 use Rattle.mon_recorders.specs.declared.record.Record.{Record}
 use Rattle.mon_machine.specs.State.{State, goes}
 use Rattle.mon_machine.specs.Step.{step}
-use Rattle.mon_machine.specs.Run.{Progress, Ran, Goes, Between, after_steps, records_of, printed_by, heard, is_heard}
+use Rattle.mon_recorders.specs.Readings.{Between}
+use Rattle.mon_machine.specs.Run.{Progress, Ran, Goes, after_steps, records_of, printed_by, heard, is_heard}
 use Rattle.mon_machine.proofs.Runs.{after_steps_none, one_more, goes_none, goes_one_more}
 use Rattle.mon_machine.proofs.Printed.{printed_none, printed_last}
 use Rattle.mon_interp.specs.Machines.{Stepped}

@@ -19,7 +19,7 @@ use Rattle.mon_frames.specs.declared.call.Origin.TheVariants.{Plain, Generator a
 use Rattle.mon_frames.specs.Calls.{handler_due}
 use Rattle.mon_frames.specs.Views.{FramesView, top_of, without_top}
 use Rattle.mon_recorders.specs.declared.record.Record.{Record}
-use Rattle.mon_recorders.specs.Happenings.{Kind}
+use Rattle.mon_recorders.specs.declared.happening.Kind.{Kind}
 use Rattle.mon_machine.specs.declared.mode.Mode.{Mode}
 use Rattle.mon_machine.specs.declared.mode.Mode.TheVariants.{Run, Unwind}
 use Rattle.mon_values.specs.declared.value.Exc.{Exc}

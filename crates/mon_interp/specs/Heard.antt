@@ -4,7 +4,8 @@ use Rattle.mon_events.specs.declared.event.Event.{Event}
 use Rattle.mon_words.specs.declared.history.Cell.{Cell}
 use Rattle.mon_words.specs.Words.{is_enabled}
 use Rattle.mon_recorders.specs.declared.record.Record.{Record}
-use Rattle.mon_recorders.specs.Happenings.{Kind, Local, Global, Ancillary}
+use Rattle.mon_recorders.specs.declared.happening.Kind.{Kind}
+use Rattle.mon_recorders.specs.declared.happening.Kind.TheVariants.{Local, Global, Ancillary}
 use Rattle.mon_machine.specs.Run.{is_line}
 
 -- an event of the cell's own location

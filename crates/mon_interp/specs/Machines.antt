@@ -1,6 +1,6 @@
 -- What a machine has done.
 use Rattle.std.specs.Prelude.{◌≡◌, ℕ, ◌+◌, ◌++◌, Bool}
-use Rattle.mon_recorders.specs.Happenings.{Kind}
+use Rattle.mon_recorders.specs.declared.happening.Kind.{Kind}
 use Rattle.mon_machine.specs.State.{State}
 use Rattle.mon_machine.specs.Step.{Step}
 use Rattle.mon_machine.specs.Run.{Progress, heard}

@@ -4,7 +4,8 @@ ghost use Rattle.std.specs.Prelude.{◌≡◌, ◌++◌, nat_lt, OnOk, ℕ};
 ghost use Rattle.mon_events.specs.declared.event.Slot.TheVariants as slot;
 ghost use Rattle.mon_words.specs.Words.{cell_of, enabled_in, is_enabled};
 ghost use Rattle.mon_machine.specs.Events.{line_events};
-ghost use Rattle.mon_machine.specs.Run.{records_for, heard};
+ghost use Rattle.mon_recorders.specs.Happenings.{for_tools};
+ghost use Rattle.mon_machine.specs.Run.{heard};
 ghost use Rattle.mon_interp.specs.Heard.{cell_hears, line_record};
 
 use mon_events::{Event, Slot};
@@ -15,7 +16,7 @@ use sqlite_items::Items;
 use std::alloc::{AllocError, Global};
 
 // Records the line for each tool for which the word enables LINE, in ascending order.
-#[tactic(auto, using(std::proofs::lemmas::Grind::common_steps, mon_machine::proofs::Heard::records_for_none, mon_machine::proofs::Heard::records_for_more))]
+#[tactic(auto, using(std::proofs::lemmas::Grind::common_steps, mon_recorders::proofs::Folds::for_tools_none, mon_recorders::proofs::Folds::for_tools_more))]
 fn hear(
     alloc: Global,
     records: &mut Items<Record>,
@@ -24,7 +25,7 @@ fn hear(
     code: u16,
     line: u32,
 ) -> Result<(), AllocError>
-    ensures { OnOk result (records.new ≡ records.old ++ records_for (is_enabled (cell_of word) slot.Line) (line_record step code line) 6) }
+    ensures { OnOk result (records.new ≡ records.old ++ for_tools (is_enabled (cell_of word) slot.Line) (line_record step code line) 6) }
 {
     for tool in 0..6u8 {
         if enabled(word, Slot::Line, tool) {

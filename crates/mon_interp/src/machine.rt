@@ -72,7 +72,7 @@ impl Machine {
     ghost use Rattle.mon_machine.specs.Run.{is_heard, Ran};
     ghost use Rattle.mon_machine.specs.declared.mode.Mode.TheVariants.{Run, Unwind, Ended};
     ghost use Rattle.mon_recorders.specs.declared.report.Outcome.TheVariants.{Raised};
-    ghost use Rattle.mon_recorders.specs.Happenings.{Kind};
+    ghost use Rattle.mon_recorders.specs.declared.happening.Kind.{Kind};
     ghost use Rattle.mon_interp.specs.Heard.{cell_hears};
     ghost use Rattle.mon_interp.specs.Machines.{progress_of, state_of, Stepped};
     ghost use Rattle.mon_interp.specs.Moving.{Stands};

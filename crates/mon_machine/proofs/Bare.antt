@@ -1,5 +1,5 @@
 -- What is heard over a board on which nothing is wanted: nothing.
-use Rattle.std.proofs.Common.{◌≡◌, ◌⊎◌, inl, inr, ℕ, zero, suc, ◌+◌, ◌-◌, ◌^◌, ◌%◌, ◌<◌, ◌≤◌, ◌==◌, Bool, true, false, ◌&&◌, List, [], ◌∷◌, ◌++◌, length, take, get_or, set, refl, sym, ap, subst, ◌∙◌, arith, append-nil}
+use Rattle.std.proofs.Common.{◌≡◌, ◌⊎◌, inl, inr, ℕ, zero, suc, ◌+◌, ◌-◌, ◌^◌, ◌%◌, ◌≤◌, ◌==◌, Bool, true, false, ◌&&◌, List, [], ◌∷◌, ◌++◌, length, take, get_or, set, refl, sym, ap, subst, ◌∙◌, arith, append-nil}
 use Rattle.std.proofs.Math.Nat.{zero-div}
 use Rattle.std.proofs.Math.Seq.{take-append-add}
 use Rattle.std.proofs.lemmas.List.{append_cancel_left}
@@ -13,10 +13,15 @@ use Rattle.mon_words.specs.declared.history.Cell.{Cell}
 use Rattle.mon_words.specs.declared.history.Mark.{Mark}
 use Rattle.mon_words.specs.declared.history.Mark.TheVariants.{Off, Put}
 use Rattle.mon_recorders.specs.declared.record.Record.{Record}
-use Rattle.mon_recorders.specs.Happenings.{Happening, Kind, Local, Global, Ancillary, record_of}
+use Rattle.mon_recorders.specs.declared.happening.Happening.{Happening}
+use Rattle.mon_recorders.specs.declared.happening.Kind.{Kind}
+use Rattle.mon_recorders.specs.declared.happening.Kind.TheVariants.{Local, Global, Ancillary}
+use Rattle.mon_recorders.specs.Happenings.{record_of}
+use Rattle.mon_recorders.specs.Readings.{Between}
+use Rattle.mon_recorders.proofs.Folds.{for_tools_never}
 use Rattle.mon_machine.specs.State.{State, goes}
 use Rattle.mon_machine.specs.Step.{step}
-use Rattle.mon_machine.specs.Run.{Progress, Ran, Between, after_steps, steps_done, printed_by, is_line, is_heard, records_for, heard_one, heard, records_of}
+use Rattle.mon_machine.specs.Run.{Progress, Ran, after_steps, steps_done, printed_by, is_line, is_heard, heard, records_of}
 use Rattle.mon_machine.specs.Bare.{IsBare, plain_after}
 use Rattle.mon_machine.proofs.Runs.{steps_done_goes, steps_done_all, after_steps_all}
 use Rattle.mon_machine.proofs.Printed.{printed_done}
@@ -71,21 +76,12 @@ not_heard b (Local location slot) tool h = ap (λ (e : Bool). is_line slot && e)
 not_heard b Global tool h = refl
 not_heard b (Ancillary location) tool h = refl
 
--- where no tool hears an event, it has no record
-pub no_records : (hears : ℕ → Bool) (record_for : ℕ → Record) (n : ℕ) → ((t : ℕ) → t < n → hears t ≡ false) → records_for hears record_for n ≡ []
-unfolding records_for
-no_records hears record_for zero none = refl
-no_records hears record_for (suc n) none =
-    let e : records_for hears record_for n ≡ [] = no_records hears record_for n (λ t h. none t (omega arith)) in
-    let f : hears n ≡ false = none n (omega arith) in
-    rw (e, f) refl
-
 heard_none : (b : Board) (i : ℕ) (hs : List Happening) → IsBare b → heard (is_heard b) i hs ≡ []
 heard_none b i [] bare = refl
 heard_none b i (h ∷ hs) bare =
-    let e : heard_one (is_heard b) i h ≡ [] = no_records (is_heard b h.kind) (record_of i h) 6 (λ t low. not_heard b h.kind t bare) in
-    let f : heard (is_heard b) i hs ≡ [] = heard_none b i hs bare in
-    rw (e, f) refl
+    let e = for_tools_never (is_heard b h.kind) (record_of i h) 6 (λ t low. not_heard b h.kind t bare) in
+    let f = heard_none b i hs bare in
+    λ j. e j ++ f j
 
 -- ---- nor while nothing but disables is added
 

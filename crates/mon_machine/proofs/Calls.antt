@@ -15,7 +15,7 @@ use Rattle.mon_machine.specs.State.{State, start, goes}
 use Rattle.mon_machine.specs.Step.{step}
 use Rattle.mon_machine.specs.Run.{after_steps, outcome_of, is_heard, heard}
 use Rattle.mon_machine.specs.Serial.{wants_line}
-use Rattle.mon_machine.specs.Laws.{AllRun, IsCall, NeverStuck, FitsDepths, HasDepths, DepthsAsRecorded, LimitsAreBounds, LineMarks, HeardByWants}
+use Rattle.mon_machine.specs.Laws.{AllRun, IsCall, NeverStuck, FitsDepths, HasDepths, DepthsAsRecorded, LimitsAreBounds, LineMarks, ProperEvents, HeardByWants}
 use Rattle.mon_machine.proofs.Fitting.{FoundAt, found_at, checked_code}
 use Rattle.mon_machine.proofs.Keeping.{IsAt, Waits, Waiting, HasTop, IsOwn, IsIn, Keeps, called_at}
 use Rattle.mon_machine.proofs.Runs.{steps_done_on}
@@ -97,6 +97,9 @@ limits_are_bounds p k c args call n =
 
 pub line_marks : LineMarks
 line_marks p k c args call n = (step_steps p (after_steps p (start c k args) n) call.runs call.checked (call_keeps p k c args call n)).marks
+
+pub proper_events : ProperEvents
+proper_events p k c args call n = (step_steps p (after_steps p (start c k args) n) call.runs call.checked (call_keeps p k c args call n)).proper
 
 pub heard_by_wants : HeardByWants
 heard_by_wants p k c args call tool b wants = record { each_step = each; whole_run = λ i positions. records_of_lines p tool b i (start c k args) positions each }

@@ -21,7 +21,7 @@ use Rattle.mon_frames.specs.Items.{items_at}
 use Rattle.mon_frames.specs.Iterating.{iterated_at, over}
 use Rattle.mon_frames.specs.Calls.{called}
 use Rattle.mon_frames.specs.Views.{FramesView}
-use Rattle.mon_recorders.specs.Happenings.{Happening}
+use Rattle.mon_recorders.specs.declared.happening.Happening.{Happening}
 use Rattle.mon_recorders.specs.declared.report.Outcome.{Outcome}
 use Rattle.mon_machine.specs.declared.mode.Mode.{Mode}
 use Rattle.mon_machine.specs.State.{State, Move, in_top, goes_on, jumps, start}

@@ -14,7 +14,10 @@ use Rattle.mon_words.specs.Words.{is_bit, is_enabled}
 use Rattle.mon_words.specs.History.{after, cell_at}
 use Rattle.mon_words.specs.declared.history.Board.{Board}
 use Rattle.mon_recorders.specs.declared.record.Record.{Record}
-use Rattle.mon_recorders.specs.Happenings.{Happening, Kind, Local, Global, Ancillary, record_of}
+use Rattle.mon_recorders.specs.declared.happening.Happening.{Happening}
+use Rattle.mon_recorders.specs.declared.happening.Kind.{Kind}
+use Rattle.mon_recorders.specs.declared.happening.Kind.TheVariants.{Local, Global, Ancillary}
+use Rattle.mon_recorders.specs.Happenings.{record_of}
 use Rattle.mon_values.specs.declared.value.Exc.{Exc}
 use Rattle.mon_events.specs.declared.event.Event.{Event}
 use Rattle.mon_events.specs.declared.op.Op.{Op}
@@ -29,41 +32,24 @@ use Rattle.mon_code.specs.declared.program.Handler.{Handler}
 use Rattle.mon_machine.specs.declared.mode.Ending.{Ending}
 use Rattle.mon_machine.specs.State.{State, Move, goes, with_frame}
 use Rattle.mon_machine.specs.Moves.{effect}
-use Rattle.mon_machine.specs.Events.{Shown, shown, of_call, happens, offset, line_events, main_events, ancillary_events, raise_events, instruction_events}
+use Rattle.mon_machine.specs.Events.{Shown, shown, of_call, happens, offset, line_events, in_main, local_event, slot_events, ancillary_events, raise_events, instruction_events}
+use Rattle.mon_recorders.proofs.Folds.{for_tools_same, for_tools_never, delivered_append}
 use Rattle.mon_machine.specs.Step.{step, executed, with_line, goes_out, unwinds_from, unwinds}
 use Rattle.mon_machine.proofs.Runs.{stands_still, nothing_happens}
-use Rattle.mon_machine.specs.Run.{after_steps, steps_done, is_heard, records_for, heard_one, heard, records_of}
+use Rattle.mon_machine.specs.Run.{after_steps, steps_done, is_heard, heard, records_of}
 use Rattle.mon_machine.specs.Serial.{wants_line, line_records, WantsLine, HasLineWants}
 use Rattle.mon_machine.specs.Laws.{AtMarked, MarksLine, is_line_kind}
 
-pub records_for_none : (hears : ℕ → Bool) (record_for : ℕ → Record) → records_for hears record_for 0 ≡ []
-unfolding records_for
-records_for_none hears record_for = refl
-
-pub records_for_more : (hears : ℕ → Bool) (record_for : ℕ → Record) (n : ℕ) → records_for hears record_for (n + 1) ≡ records_for hears record_for n ++ (if hears n then record_for n ∷ [] else [])
-unfolding records_for
-records_for_more hears record_for n = rw add-one refl
-
--- only what the first n tools hear is read
-pub records_for_same : (a b : ℕ → Bool) (record_for : ℕ → Record) (n : ℕ) → ((t : ℕ) → t < n → a t ≡ b t) → records_for a record_for n ≡ records_for b record_for n
-unfolding records_for
-records_for_same a b record_for zero same = refl
-records_for_same a b record_for (suc n) same =
-    let e : records_for a record_for n ≡ records_for b record_for n = records_for_same a b record_for n (λ t h. same t (omega arith)) in
-    let f : a n ≡ b n = same n (omega arith) in
-    rw (e, f) refl
-
 pub heard_append : (hears : Kind → ℕ → Bool) (i : ℕ) (xs ys : List Happening) → heard hears i (xs ++ ys) ≡ heard hears i xs ++ heard hears i ys
-heard_append hears i [] ys = refl
-heard_append hears i (x ∷ xs) ys = ap (λ (r : List Record). heard_one hears i x ++ r) (heard_append hears i xs ys) ∙ sym (append_assoc (heard_one hears i x) (heard hears i xs) (heard hears i ys))
+heard_append hears i xs ys = delivered_append (λ t h. hears h.kind t) (record_of i) xs ys
 
 -- two that agree on each event hear the same
 pub heard_same : (a b : Kind → ℕ → Bool) (i : ℕ) (hs : List Happening) → AllByRecursion (λ (h : Happening). (t : ℕ) → t < 6 → a h.kind t ≡ b h.kind t) hs → heard a i hs ≡ heard b i hs
 heard_same a b i [] same = refl
 heard_same a b i (h ∷ hs) same =
-    let e : heard_one a i h ≡ heard_one b i h = records_for_same (a h.kind) (b h.kind) (record_of i h) 6 same.0 in
-    let f : heard a i hs ≡ heard b i hs = heard_same a b i hs same.1 in
-    rw (e, f) refl
+    let e = for_tools_same (a h.kind) (b h.kind) (record_of i h) 6 same.0 in
+    let f = heard_same a b i hs same.1 in
+    λ j. e j ++ f j
 
 -- two lists
 pub all_append : {X : Type 0} (P : X → Type 0) (xs ys : List X) → AllByRecursion P xs → AllByRecursion P ys → AllByRecursion P (xs ++ ys)
@@ -202,11 +188,6 @@ wants_line-line_alone tool = record { others = others }
     others Global t e = refl
     others (Ancillary location) t e = refl
 
-records_for_silent : (hears : ℕ → Bool) (record_for : ℕ → Record) (n : ℕ) → ((t : ℕ) → hears t ≡ false) → records_for hears record_for n ≡ []
-unfolding records_for
-records_for_silent hears record_for zero silent = refl
-records_for_silent hears record_for (suc n) silent = rw (silent n, records_for_silent hears record_for n silent) refl
-
 IsOtherKind : Happening → Type 0
 IsOtherKind h = is_line_kind h.kind ≡ false
 
@@ -214,10 +195,11 @@ unheard : (hears : Kind → ℕ → Bool) (i : ℕ) (hs : List Happening) → Li
 unfolding IsOtherKind
 unheard hears i [] alone others = refl
 unheard hears i (h ∷ hs) alone others =
-    let here : heard_one hears i h ≡ [] = records_for_silent (hears h.kind) (record_of i h) 6 (λ t. alone.others h.kind t others.0) in
-    rw (here, unheard hears i hs alone others.1) refl
+    let here = for_tools_never (hears h.kind) (record_of i h) 6 (λ t l. alone.others h.kind t others.0) in
+    let rest = unheard hears i hs alone others.1 in
+    λ j. here j ++ rest j
 
-main_other : (event : Option Event) (s : Option Shown) (location : ℕ) (f : Frame) → AllByRecursion IsOtherKind (main_events event s location f)
+main_other : (event : Option Event) (s : Option Shown) (location : ℕ) (f : Frame) → AllByRecursion IsOtherKind (slot_events (in_main event s) location f)
 unfolding IsOtherKind
 main_other None s location f = tt
 main_other (Some event) None location f = tt
@@ -243,7 +225,7 @@ unfolding IsOtherKind
 heard_instruction hears i p op n location line f m alone =
     let lines = line_events f location line f.line in
     let instruction = happens Event.Instruction (Local location Slot.Instruction) f (offset f) in
-    let main = main_events (main_event op n) (shown p op n f m.frames.calls) location f in
+    let main = slot_events (local_event p op n f m) location f in
     let ancillary = ancillary_events m.ancillary (of_call p n f.stack) location f in
     let raised = raise_events p f m.ending in
     let none : heard hears i (instruction ∷ (main ++ (ancillary ++ raised))) ≡ []

@@ -21,10 +21,11 @@ use Rattle.mon_frames.specs.declared.call.Origin.{Origin}
 use Rattle.mon_frames.specs.declared.call.Origin.TheVariants.{Plain, Generator as Generated}
 use Rattle.mon_frames.specs.Calls.{handler_due}
 use Rattle.mon_frames.specs.Views.{FramesView, without_top}
-use Rattle.mon_recorders.specs.Happenings.{Happening, Local}
+use Rattle.mon_recorders.specs.declared.happening.Happening.{Happening}
+use Rattle.mon_recorders.specs.declared.happening.Kind.TheVariants.{Local}
 use Rattle.mon_machine.specs.declared.mode.Ending.{Ending}
 use Rattle.mon_machine.specs.State.{Move}
-use Rattle.mon_machine.specs.Events.{Shown, shown, of_call, happens, offset, line_events, main_events, ancillary_events, raise_events, instruction_events}
+use Rattle.mon_machine.specs.Events.{Shown, shown, of_call, happens, offset, line_events, in_main, local_event, slot_events, ancillary_events, raise_events, instruction_events}
 use Rattle.mon_machine.specs.Step.{goes_out, unwinds_from, unwinds}
 use Rattle.mon_machine.specs.Laws.{MarksLine, is_line_kind}
 use Rattle.mon_machine.proofs.Heard.{all_append}
@@ -33,7 +34,7 @@ use Rattle.mon_machine.proofs.Keeping.{Follows, IsOf}
 use Rattle.mon_machine.proofs.Moving.{IsOther}
 
 -- another line than the last one
-Differs : ℕ → Option ℕ → Type 0
+pub Differs : ℕ → Option ℕ → Type 0
 Differs n last = (m : ℕ) → last ≡ Some m → (n == m) ≡ false
 
 -- what follows an instruction with another line or none
@@ -46,7 +47,7 @@ follows_other (Some (Some m)) n last f d =
     let same : (m == n) ≡ false = grind (arith, nat_tests) in
     ap not same
 
-is_marked_here : (bases : List ℕ) (c : Code) (i : ℕ) (op : Op) (l : Location) (n : ℕ) (last : Option ℕ) → IsLocation bases c i (line_before None c.locations i) op l → l.line ≡ Some n
+pub is_marked_here : (bases : List ℕ) (c : Code) (i : ℕ) (op : Op) (l : Location) (n : ℕ) (last : Option ℕ) → IsLocation bases c i (line_before None c.locations i) op l → l.line ≡ Some n
     → (is_target bases c.first 0 c.locations i ≡ true) ⊎ Follows (line_before None c.locations i) last → Differs n last → l.is_marked ≡ true
 is_marked_here bases c i op l n last known e came d =
     known.marked ∙ ap (λ (line : Option ℕ). is_marked bases c i (line_before None c.locations i) line) e ∙ pick came
@@ -68,18 +69,22 @@ at_marked p c op l f n s e d = record {
   alone = λ _. refl;
 }
 
-line_marked : (p : Parts) (c : Code) (op : Op) (l : Location) (f : Frame) → Stands p c op l f → AllByRecursion (MarksLine p) (line_events f (c.first + f.index) l.line f.line)
+-- there is a LINE event where the line differs
+pub each_line : (P : Happening → Type 0) (location : ℕ) (l : Location) (f : Frame) → ((n : ℕ) → l.line ≡ Some n → Differs n f.line → P (happens Event.Line (Local location Slot.Line) f n)) → AllByRecursion P (line_events f location l.line f.line)
 unfolding Differs
-line_marked p c op l f s = pick l.line f.line refl refl
+each_line P location l f at = pick l.line f.line refl refl
   where
-    chosen : (n m : ℕ) (b : Bool) → (n == m) ≡ b → l.line ≡ Some n → f.line ≡ Some m → AllByRecursion (MarksLine p) (if b then [] else happens Event.Line (Local (c.first + f.index) Slot.Line) f n ∷ [])
+    chosen : (n m : ℕ) (b : Bool) → (n == m) ≡ b → l.line ≡ Some n → f.line ≡ Some m → AllByRecursion P (if b then [] else happens Event.Line (Local location Slot.Line) f n ∷ [])
     chosen n m true t e last = tt
-    chosen n m false t e last = (at_marked p c op l f n s e (λ o h. let same : m ≡ o = same_Some m o (sym last ∙ h) in subst (λ (x : ℕ). (n == x) ≡ false) same t), tt)
+    chosen n m false t e last = (at n e (λ o h. let same : m ≡ o = same_Some m o (sym last ∙ h) in subst (λ (x : ℕ). (n == x) ≡ false) same t), tt)
 
-    pick : (line last : Option ℕ) → l.line ≡ line → f.line ≡ last → AllByRecursion (MarksLine p) (line_events f (c.first + f.index) line last)
+    pick : (line last : Option ℕ) → l.line ≡ line → f.line ≡ last → AllByRecursion P (line_events f location line last)
     pick None last e h = tt
-    pick (Some n) None e h = (at_marked p c op l f n s e (λ o g. absurd (none-some o (sym h ∙ g))), tt)
+    pick (Some n) None e h = (at n e (λ o g. absurd (none-some o (sym h ∙ g))), tt)
     pick (Some n) (Some m) e h = chosen n m (n == m) refl e h
+
+line_marked : (p : Parts) (c : Code) (op : Op) (l : Location) (f : Frame) → Stands p c op l f → AllByRecursion (MarksLine p) (line_events f (c.first + f.index) l.line f.line)
+line_marked p c op l f s = each_line (MarksLine p) (c.first + f.index) l f (λ n e d. at_marked p c op l f n s e d)
 
 -- the other events are of other kinds
 quiet : (p : Parts) (h : Happening) → (h.event ≡ Event.Line → ⊥) → is_line_kind h.kind ≡ false → MarksLine p h
@@ -105,7 +110,7 @@ main_event_other Op.ReturnValue arg = λ e. cc
 main_event_other Op.YieldValue arg = λ e. cc
 main_event_other _ arg = tt
 
-main_marked : (p : Parts) (event : Option Event) (s : Option Shown) (location : ℕ) (f : Frame) → IsOther event → AllByRecursion (MarksLine p) (main_events event s location f)
+main_marked : (p : Parts) (event : Option Event) (s : Option Shown) (location : ℕ) (f : Frame) → IsOther event → AllByRecursion (MarksLine p) (slot_events (in_main event s) location f)
 main_marked p None s location f other = tt
 main_marked p (Some event) None location f other = tt
 main_marked p (Some event) (Some s) location f other = (record { marked = λ e. absurd (other e); alone = λ e. cc }, tt)
@@ -127,7 +132,7 @@ pub instruction_marked : (p : Parts) (c : Code) (op : Op) (l : Location) (f : Fr
     → AllByRecursion (MarksLine p) (instruction_events p op l.argument (c.first + f.index) l.line f m)
 instruction_marked p c op l f m is_of stands known came other =
     let location : ℕ = c.first + f.index in
-    let main = main_events (main_event op l.argument) (shown p op l.argument f m.frames.calls) location f in
+    let main = slot_events (local_event p op l.argument f m) location f in
     let ancillary = ancillary_events m.ancillary (of_call p l.argument f.stack) location f in
     let raised = raise_events p f m.ending in
     let instruction = happens Event.Instruction (Local location Slot.Instruction) f (offset f) in

@@ -17,7 +17,8 @@ use Rattle.mon_recorders.specs.declared.report.Outcome.{Outcome}
 use Rattle.mon_machine.specs.declared.mode.Mode.{Mode}
 use Rattle.mon_machine.specs.State.{start}
 use Rattle.mon_machine.specs.Step.{step}
-use Rattle.mon_machine.specs.Run.{after_steps, steps_done, records_for}
+use Rattle.mon_recorders.specs.Happenings.{for_tools}
+use Rattle.mon_machine.specs.Run.{after_steps, steps_done}
 use Rattle.mon_machine.specs.Serial.{line_records}
 use Rattle.mon_machine.specs.Laws.{IsCall, runs}
 
@@ -211,7 +212,7 @@ line_record : (step tool code line : ℕ) → Record
 line_record step tool code line = record { step = step; tool = tool; event = Event.Line; code = code; at = line; dest = 0; first = []; second = [] }
 
 f_tells : line_records program 5 0 (start f 0 []) 20 ≡ line_record 1 5 0 2 ∷ line_record 3 5 0 3 ∷ []
-unfolding line_records records_for step line_record
+unfolding line_records for_tools step line_record
 f_tells = refl
 
 g_does : steps_done program (start g 1 (Truth false ∷ [])) 20 ≡ 20
@@ -220,5 +221,5 @@ g_does = refl
 
 -- a jump back to the line of the last instruction that has one tells nothing
 g_tells : line_records program 0 7 (start g 1 (Truth false ∷ [])) 20 ≡ line_record 8 0 1 6 ∷ []
-unfolding line_records records_for step line_record
+unfolding line_records for_tools step line_record
 g_tells = refl

@@ -1,4 +1,4 @@
--- A step keeps how the frames of a thread stand, and its LINE events stand at marked locations.
+-- A step keeps how the frames of a thread stand, its LINE events stand at marked locations, and all stand where their kinds say.
 use Rattle.std.proofs.Common.{◌≡◌, ℕ, ◌+◌, true, ◌⊎◌, List, [], ◌∷◌, length, refl, sym, ap, subst, ◌∙◌}
 use Rattle.std.specs.Prelude.{Option, Some, None, slice_get}
 use Rattle.std.specs.List.{AllByRecursion}
@@ -16,6 +16,8 @@ use Rattle.mon_frames.specs.declared.call.Generator.{Generator}
 use Rattle.mon_frames.specs.declared.call.Origin.{Origin}
 use Rattle.mon_frames.specs.declared.call.Origin.TheVariants.{Plain, Generator as Generated}
 use Rattle.mon_frames.specs.Calls.{handler_in, handler_due}
+use Rattle.mon_code.specs.Sites.{sites_of}
+use Rattle.mon_recorders.specs.Proper.{AreProper}
 use Rattle.mon_machine.specs.declared.mode.Mode.{Mode}
 use Rattle.mon_machine.specs.declared.mode.Ending.{Ending}
 use Rattle.mon_machine.specs.State.{State, Move}
@@ -27,6 +29,7 @@ use Rattle.mon_machine.proofs.Fitting.{line_before, known_at, FoundAt, found_at,
 use Rattle.mon_machine.proofs.Keeping.{Follows, IsOf, IsAt, IsThrown, Waits, IsPlain, Waiting, IsIn, Keeps, Works, gets_value, gets_exception, is_caught}
 use Rattle.mon_machine.proofs.Moving.{view, Ends, Moves, effect_moves}
 use Rattle.mon_machine.proofs.Lines.{instruction_marked, unwinds_marked}
+use Rattle.mon_machine.proofs.Proper.{effect_none, instruction_proper, unwinds_proper}
 
 -- the frame that made a call gets its value
 stands_in : (p : Parts) (f : Frame) (w : Waits p f) → stands_at p f ≡ Some w.location
@@ -59,6 +62,7 @@ ended_keeps p m moves =
 pub record Steps (p : Parts) (s : Step) : Type 0 where
   pub keeps : Keeps p s.after
   pub marks : AllByRecursion (MarksLine p) s.events
+  pub proper : AreProper (sites_of p) s.events
 
 taken : (line last : Option ℕ) → Follows (Some line) (line_after line last)
 taken None last = tt
@@ -75,7 +79,7 @@ module _ (p : Parts) (runs : AllRun p) (checked : IsChecked p) (f : Frame) (o : 
       = record { is_of = record { found = is_of.found; locals = is_of.locals }; stands = stands; has_op = is; known = known; stack = sym stack; handling = sym handling; line = taken l.line f.line } in
       let moves = effect_moves p c l g o below its is_plain waiting op works checked (runs (c.first + f.index) op is) in
       let m = effect p c op l.argument g (view g o below its) in
-      record { keeps = ended_keeps p m moves; marks = instruction_marked p c op l f m is_of stands known came moves.ancillary }
+      record { keeps = ended_keeps p m moves; marks = instruction_marked p c op l f m is_of stands known came moves.ancillary; proper = instruction_proper p c op l f checked is_of stands is m known came (effect_none p c op l.argument g (view g o below its)) }
 
   run_steps : IsAt p f → Steps p (in_code p (slice_get p.codes f.code) f (view f o below its))
   run_steps at =
@@ -108,8 +112,9 @@ step_in p (call ∷ calls) its (Mode.Unwind e) runs checked at = record {
   keeps = subst (λ (h : Option Handler). Keeps p (unwinds_from p (view call.frame call.origin calls its) call.origin e call.frame h).after) (sym (due_is p call.frame at.1))
       (unwinds_keeps p call.frame calls its at.2 e call.origin at.1.location.handler at.1 refl at.0);
   marks = unwinds_marked p (record { calls = call ∷ calls; generators = []; iterators = its }) e (call ∷ calls);
+  proper = unwinds_proper p (record { calls = call ∷ calls; generators = []; iterators = its }) e (call ∷ calls);
 }
-step_in p calls its (Mode.Ended outcome) runs checked at = record { keeps = record { generators = refl; stands = at }; marks = tt }
+step_in p calls its (Mode.Ended outcome) runs checked at = record { keeps = record { generators = refl; stands = at }; marks = tt; proper = tt }
 step_in p calls its Mode.Stuck runs checked at = absurd at
 
 pub step_steps : (p : Parts) (s : State) → AllRun p → IsChecked p → Keeps p s → Steps p (step p s)

@@ -12,7 +12,9 @@ use Rattle.mon_events.specs.Ops.{main_event}
 use Rattle.mon_code.specs.Programs.{Parts}
 use Rattle.mon_frames.specs.declared.frame.Frame.{Frame}
 use Rattle.mon_frames.specs.declared.call.Call.{Call}
-use Rattle.mon_recorders.specs.Happenings.{Happening, Kind, Local, Global, Ancillary}
+use Rattle.mon_recorders.specs.declared.happening.Happening.{Happening}
+use Rattle.mon_recorders.specs.declared.happening.Kind.{Kind}
+use Rattle.mon_recorders.specs.declared.happening.Kind.TheVariants.{Local, Global, Ancillary}
 use Rattle.mon_machine.specs.declared.mode.Ending.{Ending}
 use Rattle.mon_machine.specs.State.{Move}
 use Rattle.mon_machine.specs.Moves.{callee_in, args_in}
@@ -22,12 +24,12 @@ abbrev pub line_after : Option ℕ → Option ℕ → Option ℕ
 line_after None last = last
 line_after (Some line) last = Some line
 
--- an event in a frame, at an offset or a line
-abbrev pub happens : Event → Kind → Frame → ℕ → Happening
-happens event kind f at = record { event = event; kind = kind; code = f.code; at = at; dest = 0; first = []; second = [] }
-
 abbrev pub offset : Frame → ℕ
 offset f = 2 * f.index
+
+-- an event in a frame, at a line or its offset
+abbrev pub happens : Event → Kind → Frame → ℕ → Happening
+happens event kind f at = record { event = event; kind = kind; code = f.code; at = at; offset = offset f; dest = 0; first = []; second = [] }
 
 -- LINE, where the location has a line that differs from the frame's last one
 abbrev pub line_events : Frame → ℕ → Option ℕ → Option ℕ → List Happening
@@ -92,10 +94,24 @@ shown p _ n f calls = Some nothing
 abbrev pub showing : Shown → Happening → Happening
 showing s h = record h { dest = s.dest; first = s.first; second = s.second }
 
-abbrev pub main_events : Option Event → Option Shown → ℕ → Frame → List Happening
-main_events None s location f = []
-main_events (Some event) None location f = []
-main_events (Some event) (Some s) location f = showing s (happens event (Local location Slot.Main) f (offset f)) ∷ []
+-- an event of a slot, and what it shows
+pub record SlotEvent : Type 0 where
+  pub event : Event
+  pub slot : Slot
+  pub shows : Shown
+
+abbrev pub in_main : Option Event → Option Shown → Option SlotEvent
+in_main None s = None
+in_main (Some event) None = None
+in_main (Some event) (Some s) = Some (record { event = event; slot = Slot.Main; shows = s })
+
+-- the local event of an instruction beside LINE and INSTRUCTION
+abbrev pub local_event : Parts → Op → ℕ → Frame → Move → Option SlotEvent
+local_event p op n f m = in_main (main_event op n) (shown p op n f m.frames.calls)
+
+abbrev pub slot_events : Option SlotEvent → ℕ → Frame → List Happening
+slot_events None location f = []
+slot_events (Some e) location f = showing e.shows (happens e.event (Local location e.slot) f (offset f)) ∷ []
 
 -- C_RETURN or C_RAISE, with the callee and the first argument
 abbrev pub ancillary_events : Option Event → Shown → ℕ → Frame → List Happening
@@ -117,6 +133,6 @@ abbrev pub instruction_events : Parts → Op → ℕ → ℕ → Option ℕ → 
 instruction_events p op n location line f m =
     line_events f location line f.line
     ++ (happens Event.Instruction (Local location Slot.Instruction) f (offset f)
-    ∷ (main_events (main_event op n) (shown p op n f m.frames.calls) location f
+    ∷ (slot_events (local_event p op n f m) location f
     ++ (ancillary_events m.ancillary (of_call p n f.stack) location f
     ++ raise_events p f m.ending)))

@@ -9,12 +9,16 @@ use Rattle.mon_code.specs.declared.program.Location.{Location}
 use Rattle.mon_events.specs.declared.op.Op.{Op}
 use Rattle.mon_code.specs.Programs.{Parts, location_at, op_in}
 use Rattle.mon_code.specs.Checked.{IsChecked}
+use Rattle.mon_code.specs.Sites.{sites_of}
+use Rattle.mon_recorders.specs.Proper.{AreProper}
 use Rattle.mon_words.specs.declared.history.Board.{Board}
 use Rattle.mon_frames.specs.declared.frame.Frame.{Frame}
 use Rattle.mon_frames.specs.declared.call.Call.{Call}
 use Rattle.mon_frames.specs.Views.{top_of}
 use Rattle.mon_recorders.specs.declared.report.Outcome.{Outcome}
-use Rattle.mon_recorders.specs.Happenings.{Happening, Kind, Local, Global, Ancillary}
+use Rattle.mon_recorders.specs.declared.happening.Happening.{Happening}
+use Rattle.mon_recorders.specs.declared.happening.Kind.{Kind}
+use Rattle.mon_recorders.specs.declared.happening.Kind.TheVariants.{Local, Global, Ancillary}
 use Rattle.mon_machine.specs.declared.mode.Mode.{Mode}
 use Rattle.mon_machine.specs.State.{State, goes, start}
 use Rattle.mon_machine.specs.Step.{step}
@@ -114,6 +118,10 @@ pub record MarksLine (p : Parts) (h : Happening) : Type 0 where
 
 abbrev pub LineMarks : Type 0
 LineMarks = (p : Parts) (k : ℕ) (c : Code) (args : List Value) → IsCall p k c args → (n : ℕ) → AllByRecursion (MarksLine p) (step p (after_steps p (start c k args) n)).events
+
+-- and each event stands where its kind says
+abbrev pub ProperEvents : Type 0
+ProperEvents = (p : Parts) (k : ℕ) (c : Code) (args : List Value) → IsCall p k c args → (n : ℕ) → AreProper (sites_of p) (step p (after_steps p (start c k args) n)).events
 
 -- a tool that such a board enables for LINE alone hears of each step, and of a whole run, its LINE events and nothing else
 pub record HearsLines (p : Parts) (tool : ℕ) (b : Board) (s : State) : Type 0 where

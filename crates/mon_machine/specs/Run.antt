@@ -1,5 +1,5 @@
 -- Runs, and what a tool hears of them.
-use Rattle.std.specs.Prelude.{ℕ, zero, suc, ◌+◌, ◌≤◌, ◌≡◌, Bool, true, false, ◌&&◌, List, [], ◌∷◌, ◌++◌, length, take, if◌then◌else◌}
+use Rattle.std.specs.Prelude.{ℕ, zero, suc, ◌+◌, ◌≡◌, Bool, true, false, ◌&&◌, List, [], ◌∷◌, ◌++◌, length, take, if◌then◌else◌}
 use Rattle.mon_events.specs.declared.event.Slot.{Slot}
 use Rattle.mon_code.specs.Programs.{Parts}
 use Rattle.mon_words.specs.Words.{is_enabled}
@@ -8,7 +8,11 @@ use Rattle.mon_words.specs.declared.history.Board.{Board}
 use Rattle.mon_words.specs.declared.history.Mark.{Mark}
 use Rattle.mon_recorders.specs.declared.record.Record.{Record}
 use Rattle.mon_recorders.specs.declared.report.Outcome.{Outcome}
-use Rattle.mon_recorders.specs.Happenings.{Happening, Kind, Local, Global, Ancillary, record_of}
+use Rattle.mon_recorders.specs.declared.happening.Happening.{Happening}
+use Rattle.mon_recorders.specs.declared.happening.Kind.{Kind}
+use Rattle.mon_recorders.specs.declared.happening.Kind.TheVariants.{Local, Global, Ancillary}
+use Rattle.mon_recorders.specs.Happenings.{record_of, delivered}
+use Rattle.mon_recorders.specs.Readings.{Between}
 use Rattle.mon_machine.specs.declared.mode.Mode.{Mode}
 use Rattle.mon_machine.specs.State.{State, goes}
 use Rattle.mon_machine.specs.Step.{step}
@@ -39,18 +43,9 @@ is_heard b (Local location slot) tool = is_line slot && is_enabled (cell_at b lo
 is_heard b Global tool = false
 is_heard b (Ancillary location) tool = false
 
--- one record for each of the first n tools that hears it, in ascending order
-unfoldable pub records_for : (ℕ → Bool) → (ℕ → Record) → ℕ → List Record
-records_for hears record_for zero = []
-records_for hears record_for (suc n) = records_for hears record_for n ++ (if hears n then record_for n ∷ [] else [])
-
--- the records of one event of step number i
-abbrev pub heard_one : (Kind → ℕ → Bool) → ℕ → Happening → List Record
-heard_one hears i h = records_for (hears h.kind) (record_of i h) 6
-
+-- the records of step number i
 abbrev pub heard : (Kind → ℕ → Bool) → ℕ → List Happening → List Record
-heard hears i [] = []
-heard hears i (h ∷ hs) = heard_one hears i h ++ heard hears i hs
+heard hears i hs = delivered (λ t h. hears h.kind t) (record_of i) hs
 
 -- the records of the steps from number i on, where each step is read at its position in the history
 unfoldable pub records_of : Parts → Board → List Mark → ℕ → State → List ℕ → List Record
@@ -62,11 +57,6 @@ records_of p first marks i s (at ∷ positions) =
 unfoldable pub printed_by : Parts → State → ℕ → List (List ℕ)
 printed_by p s zero = []
 printed_by p s (suc n) = (step p s).printed ++ printed_by p (step p s).after n
-
--- positions that never fall, from low to high
-abbrev pub Between : ℕ → List ℕ → ℕ → Type 0
-Between low [] high = low ≤ high
-Between low (at ∷ positions) high = (low ≤ at) × Between at positions high
 
 -- the thread goes on before each of n steps
 unfoldable pub Goes : Parts → State → ℕ → Type 0

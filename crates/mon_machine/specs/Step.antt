@@ -16,7 +16,7 @@ use Rattle.mon_frames.specs.Calls.{handler_due}
 use Rattle.mon_frames.specs.Items.{lowest}
 use Rattle.mon_frames.specs.Views.{FramesView, without_top}
 use Rattle.mon_recorders.specs.declared.report.Outcome.{Outcome}
-use Rattle.mon_recorders.specs.Happenings.{Happening}
+use Rattle.mon_recorders.specs.declared.happening.Happening.{Happening}
 use Rattle.mon_machine.specs.declared.mode.Mode.{Mode}
 use Rattle.mon_machine.specs.declared.mode.Ending.{Ending}
 use Rattle.mon_machine.specs.State.{State, Move, with_frame}

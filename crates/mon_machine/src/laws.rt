@@ -1,4 +1,4 @@
-ghost use Rattle.mon_machine.specs.Laws.{DepthsAsRecorded, GoesOnByOne, HeardByWants, LimitsAreBounds, LineMarks, NeverStuck, RunsAddUp};
+ghost use Rattle.mon_machine.specs.Laws.{DepthsAsRecorded, GoesOnByOne, HeardByWants, LimitsAreBounds, LineMarks, NeverStuck, ProperEvents, RunsAddUp};
 
 /// A run goes on step by step, and a thread that does not go on stands still.
 pub fn goes_on_by_one()
@@ -30,6 +30,12 @@ pub fn limits_are_bounds()
 /// LINE events of such a thread occur at marked locations alone.
 pub fn line_marks()
     ensures { LineMarks }
+{}
+
+/// Each event of such a thread stands where its kind says: it is that of its slot at its location, one that is enabled where
+/// CALL is the event of a location, or one that is global alone.
+pub fn proper_events()
+    ensures { ProperEvents }
 {}
 
 /// Where LINE is enabled for one tool at the marked locations alone, that tool hears every LINE event of such a thread.

@@ -6,6 +6,6 @@ mod mode;
 
 pub use laws::{
     depths_as_recorded, goes_on_by_one, heard_by_wants, limits_are_bounds, line_marks, never_stuck,
-    runs_add_up,
+    proper_events, runs_add_up,
 };
 pub use mode::{Ending, Mode};

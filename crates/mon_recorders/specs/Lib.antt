@@ -1,1 +1,6 @@
 pub mod Happenings
+pub mod Readings
+pub mod Boards
+pub mod Laws
+pub mod Proper
+pub mod Examples

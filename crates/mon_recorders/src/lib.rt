@@ -1,8 +1,12 @@
 //! What is recorded of a thread.
 #![tactic(auto)]
 
+mod happening;
+mod laws;
 mod record;
 mod report;
 
+pub use happening::{Happening, Kind};
+pub use laws::{disables_are_told_by_place, one_step_more, readings_join, worked_deliveries};
 pub use record::{Cut, Disabled, Record};
 pub use report::{Outcome, ThreadReport};
