@@ -20,7 +20,7 @@ use Rattle.mon_words.specs.declared.history.Written.{Written}
 use Rattle.mon_words.proofs.Histories.{after-off, after-put, upto-off, upto-put, upto-more, based-off, based-put}
 use Rattle.mon_words.proofs.Clearing.{apart}
 use Rattle.mon_words.proofs.Standing.{after-bases, same_length, same_base, bases_from, clear_stands, clear_stands_else, normal_stands, overlay-size, right_stands, right_base, table_at, noted_there, some_count, first_bases, first_stands, board-length}
-use Rattle.mon_board.specs.Plain.{first_board, PlainOk, PlainKept, first_plain, starting, Sat, standing, turned_to, polled, found, disabled, retired, tried, counted, noted, stored, put_of, released}
+use Rattle.mon_board.specs.Plain.{first_board, PlainOk, PlainKept, first_plain, starting, Sat, standing, turned_to, polled, loaded, read, disabled, retired, tried, counted, noted, stored, put_of, released}
 use Rattle.mon_board.specs.Plain as plain
 use Rattle.mon_board.specs.declared.plain_view.PlainView.{PlainView}
 use Rattle.mon_board.specs.declared.plain_view.PlainPlan.{PlainPlan}
@@ -53,7 +53,7 @@ turns about n id i m s r long at fits = let o = r.ok id m.0 at in let w : PlainV
 
 pub polls : (about : PlainPlan) (n id i : ℕ) (m : Sat) → Allows (PlainKept about) n id m i (λ y. y) (polled (step n i 0 0 none) m)
 polls about n id i m s r long at fits = let o = r.ok id m.0 at in let w : PlainView = record m.0 { polls = m.0.polls + 1 } in
-    (w, keeps, tt, same_step about s r id i m.0 w at record { threads_are = o.threads_are; first_is = o.first_is; based = o.based; long = o.long; counts = o.counts; high = o.high; noted = o.noted; right = o.right }, refl)
+    (w, keeps, tt, same_step about s r id i m.0 w at record { threads_are = o.threads_are; first_is = o.first_is; based = o.based; long = o.long; counts = o.counts; high = o.high; noted = o.noted; right = o.right }, λ _. refl)
 
 -- what is known of the board that stands
 record Laid (about : PlainPlan) (s : State (Unit {0}) PlainView) (v : PlainView) : Type 0 where
@@ -80,8 +80,11 @@ shown about s r id i j v at place low = let o = r.ok id v at in let t = o.thread
     let e : i - v.threads ≡ j = omega arith in let f : about.threads + j ≡ i = omega arith in
     subst (λ (z : Board × ℕ × ℕ). Stands z.0 z.1 (get_or s.words z.2 0)) (λ k. (sym l.is k, sym e k, f k)) (l.stands j low')
 
-pub finds : (about : PlainPlan) (n id i j : ℕ) (m : Sat) → i ≡ m.0.threads + j → j < size m.0.first → Allows (PlainKept about) n id m i (λ y. y) (found (step n i 0 0 none) m)
-finds about n id i j m place low s r long at fits = (m.0, keeps, tt, same_step about s r id i m.0 m.0 at (r.ok id m.0 at), (shown about s r id i j m.0 at place low, refl))
+pub loads : (about : PlainPlan) (n id i j : ℕ) (m : Sat) → i ≡ m.0.threads + j → j < size m.0.first → Allows (PlainKept about) n id m i (λ y. y) (loaded (step n i 0 0 none) m)
+loads about n id i j m place low s r long at fits = (m.0, keeps, tt, same_step about s r id i m.0 m.0 at (r.ok id m.0 at), (shown about s r id i j m.0 at place low, refl))
+
+pub reads : (about : PlainPlan) (n id i j : ℕ) (m : Sat) → i ≡ m.0.threads + j → j < size m.0.first → Allows (PlainKept about) n id m i (λ y. y) (read (step n i 0 0 none) m)
+reads about n id i j m place low s r long at fits = (m.0, keeps, tt, same_step about s r id i m.0 m.0 at (r.ok id m.0 at), (shown about s r id i j m.0 at place low, refl))
 
 -- a word that may stand for what stands takes the place of one
 word_ok : (about : PlainPlan) (s : State (Unit {0}) PlainView) (r : PlainKept about s) (id i j y : ℕ) (v : PlainView) → get_elem? s.views id ≡ some v → i ≡ v.threads + j → j < size v.first → v.written ≡ []

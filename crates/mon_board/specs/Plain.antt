@@ -62,12 +62,17 @@ spot st m = st.word - m.0.threads
 abbrev pub turned_to : Tells
 turned_to st m n m' = m' ≡ (record m.0 { current = st.word }, m.1)
 
+-- a load of the count of the thread whose handle is out
 abbrev pub polled : Tells
-polled st m n m' = m' ≡ (record m.0 { polls = m.0.polls + 1 }, m.1)
+polled st m n m' = st.word ≡ m.0.current → m' ≡ (record m.0 { polls = m.0.polls + 1 }, m.1)
 
--- a word of the board was found
-abbrev pub found : Tells
-found st m n m' = Stands (standing m.0) (spot st m) n × (m' ≡ m)
+-- a load of a word of the board by the thread whose handle is out
+abbrev pub loaded : Tells
+loaded st m n m' = Stands (standing m.0) (spot st m) n × (m' ≡ m)
+
+-- a read of a word of the halted board
+abbrev pub read : Tells
+read st m n m' = Stands (standing m.0) (spot st m) n × (m' ≡ m)
 
 -- a disable by the thread whose handle is out, by the bit that the mask clears
 abbrev pub disabled : Tells

@@ -5,7 +5,7 @@ ghost use Rattle.mon_board.specs.Plain.{standing};
 ghost use Rattle.mon_board.specs.declared.plain.BoardFault.TheVariants as board_fault;
 
 use crate::plain_play::{
-    Count, Disable, Find, Note, PlainRule, Poll, Release, Retire, Store, Turn,
+    Count, Disable, Load, Note, PlainRule, Poll, Read, Release, Retire, Store, Turn,
 };
 use crate::plain_view::{PlainPlan, PlainView};
 use atomic_table::{Seat, Table};
@@ -84,6 +84,15 @@ impl PlainBoard {
         })
     }
 
+    // The place of a word of the board, by its number.
+    fn place(&self, number: usize) -> usize
+        requires within { number < 7 + self.now.locations }
+        requires small { number < 2 ^ 33 }
+        ensures { result ≡ self.now.threads + number }
+    {
+        self.threads as usize + number
+    }
+
     // Hands the seat to a thread.
     pub(crate) fn turn(&mut self, thread: u8)
         requires { thread < self.old.threads }
@@ -94,17 +103,29 @@ impl PlainBoard {
         self.table.shared.load::<Turn>(chair, thread as usize);
     }
 
-    // Loads a word of the board, by its number.
-    pub(crate) fn word(&mut self, number: usize) -> u64
+    // Loads a word of the board, by its number, for the thread whose turn it is.
+    pub(crate) fn load(&mut self, number: usize) -> u64
         requires within { number < 7 + self.old.locations }
         requires small { number < 2 ^ 33 }
         ensures size { SameSize self.old self.new }
         ensures view { self.new.chair.me.0 ≡ self.old.chair.me.0 }
         ensures word { Stands (standing self.old.chair.me.0) number result }
     {
+        let place = self.place(number);
         let chair = &mut self.chair;
-        let place = self.threads as usize + number;
-        self.table.shared.load::<Find>(chair, place)
+        self.table.shared.load::<Load>(chair, place)
+    }
+
+    // Reads the word of a location while the board is halted.
+    pub(crate) fn read(&mut self, location: u32) -> u64
+        requires within { location < self.old.locations }
+        ensures size { SameSize self.old self.new }
+        ensures view { self.new.chair.me.0 ≡ self.old.chair.me.0 }
+        ensures word { Shows (cell_at (standing self.old.chair.me.0) location) result }
+    {
+        let place = self.place(BEFORE_LOCATIONS + location as usize);
+        let chair = &mut self.chair;
+        self.table.shared.load::<Read>(chair, place)
     }
 
     // Clears the live bit that the mask leaves out, for the thread whose turn it is.
@@ -116,8 +137,8 @@ impl PlainBoard {
         ensures view { (k : ℕ) → k < 24 → mask ≡ mask_of k → self.new.chair.me.0 ≡ record self.old.chair.me.0 { seen = self.old.chair.me.0.seen ++ Off self.old.chair.me.0.current location k ∷ [] } }
         ensures word { Shows (cell_at (standing self.old.chair.me.0) location) result }
     {
+        let place = self.place(BEFORE_LOCATIONS + location as usize);
         let chair = &mut self.chair;
-        let place = self.threads as usize + BEFORE_LOCATIONS + location as usize;
         self.table.shared.fetch_and::<Disable>(chair, place, mask)
     }
 
@@ -131,8 +152,8 @@ impl PlainBoard {
         ensures answer { (found : ℕ) × (result ≡ (found == old)) × Shows (cell_at (standing self.old.chair.me.0) location) found }
     {
         let new = normal(old);
+        let place = self.place(BEFORE_LOCATIONS + location as usize);
         let chair = &mut self.chair;
-        let place = self.threads as usize + BEFORE_LOCATIONS + location as usize;
         let found = self
             .table
             .shared
@@ -140,9 +161,10 @@ impl PlainBoard {
         found == old
     }
 
-    // A load of the thread's count, as a poll.
+    // A load of the count of the thread whose turn it is, as a poll.
     pub(crate) fn poll(&mut self, thread: u8)
-        requires { thread < self.old.threads }
+        requires within { thread < self.old.threads }
+        requires turn { self.old.chair.me.0.current ≡ thread }
         ensures size { SameSize self.old self.new }
         ensures view { self.new.chair.me.0 ≡ record self.old.chair.me.0 { polls = self.old.chair.me.0.polls + 1 } }
     {
@@ -185,21 +207,20 @@ impl PlainBoard {
         ensures size { SameSize self.old self.new }
         ensures view { self.new.chair.me.0 ≡ record self.old.chair.me.0 { written = record { place = number; word = word } ∷ self.old.chair.me.0.written } }
     {
+        let place = self.place(number);
         let chair = &mut self.chair;
-        let place = self.threads as usize + number;
         self.table.shared.store::<Store>(chair, place, word);
     }
 
-    // Adds the mark of the board that stands.
+    // Adds the mark of the board that stands. No word changes: what the seat knows changes at a step alone, so it loads one.
     pub(crate) fn release(&mut self)
         requires { (thread : ℕ) → thread < self.old.chair.me.0.threads → IsNoted self.old.chair.me.0 thread }
         ensures size { SameSize self.old self.new }
         ensures view { self.new.chair.me.0 ≡ record self.old.chair.me.0 { seen = self.old.chair.me.0.seen ++ put_of self.old.chair.me.0 ∷ []; noted = []; written = [] } }
     {
+        let place = self.place(0);
         let chair = &mut self.chair;
-        self.table
-            .shared
-            .load::<Release>(chair, self.threads as usize);
+        self.table.shared.load::<Release>(chair, place);
     }
 }
 

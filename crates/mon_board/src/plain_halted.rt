@@ -46,7 +46,7 @@ impl Halted for PlainHalted<'_> {
     ghost rest = { λ h. record { borrow = h.board.ghost_name; counts = h.board.now.chair.me.0.counts } };
 
     fn read(&mut self, location: u32) -> u64 {
-        self.board.word(BEFORE_LOCATIONS + location as usize)
+        self.board.read(location)
     }
 
     fn rewrite(&mut self, location: u32, word: u64) {

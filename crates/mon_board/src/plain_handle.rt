@@ -47,7 +47,7 @@ impl Handle for PlainHandle<'_> {
     ghost rest = { λ h. record { borrow = h.board.ghost_name; threads = h.board.now.threads; counts = other_counts h.thread h.board.now.chair.me.0.counts; marks = other_marks h.thread h.board.now.chair.me.0.seen } };
 
     fn load(&mut self, location: u32) -> u64 {
-        self.board.word(BEFORE_LOCATIONS + location as usize)
+        self.board.load(BEFORE_LOCATIONS + location as usize)
     }
 
     fn disable(&mut self, location: u32, mask: u64) -> u64 {
@@ -59,11 +59,11 @@ impl Handle for PlainHandle<'_> {
     }
 
     fn global(&mut self) -> u64 {
-        self.board.word(0)
+        self.board.load(0)
     }
 
     fn callbacks(&mut self, tool: u8) -> u64 {
-        self.board.word(1 + tool as usize)
+        self.board.load(1 + tool as usize)
     }
 
     fn poll(&mut self) -> bool {

@@ -1,5 +1,5 @@
 //! The rule of a plain board, and the names of its kinds of step.
-ghost use Rattle.mon_board.specs.Plain.{PlainKept, starting, turned_to, polled, found, disabled, retired, counted, noted, stored, released};
+ghost use Rattle.mon_board.specs.Plain.{PlainKept, starting, turned_to, polled, loaded, read, disabled, retired, counted, noted, stored, released};
 
 use crate::plain_view::{PlainPlan, PlainView};
 use atomic_table::{Play, TableRule};
@@ -24,10 +24,16 @@ impl Play<(), PlainView> for Poll {
     ghost then = { polled };
 }
 
-pub struct Find;
+pub struct Load;
 
-impl Play<(), PlainView> for Find {
-    ghost then = { found };
+impl Play<(), PlainView> for Load {
+    ghost then = { loaded };
+}
+
+pub struct Read;
+
+impl Play<(), PlainView> for Read {
+    ghost then = { read };
 }
 
 pub struct Disable;
