@@ -1,5 +1,6 @@
 //! The words of a gate, as a thread's handle and as a stopped world.
-ghost use Rattle.std.specs.Prelude.{◌≡◌, false};
+ghost use Rattle.std.specs.Prelude.{◌≡◌, false, IfErr};
+ghost use Rattle.mon_words.specs.Told.{Enters};
 ghost use Rattle.mon_gate.specs.Seats.{Belongs};
 ghost use Rattle.mon_gate.specs.declared.view.Phase.TheVariants.{Out};
 ghost use Rattle.mon_board.specs.Views.{is_attached, told_of, halt_of};
@@ -65,7 +66,13 @@ impl Handle for TableHandle<'_> {
         self.seat.poll(self.gate)
     }
 
-    fn try_enter(&mut self) -> Result<(), WorldStopped> {
+    /// One try to attach. A refusal carries the gate word that this try found.
+    fn try_enter(&mut self) -> Result<(), WorldStopped>
+        ensures gate { self.new.seat.chair.table_id ≡ self.old.seat.chair.table_id }
+        ensures kept { (self.new.seat.chair.me.0.threads ≡ self.old.seat.chair.me.0.threads) × (self.new.seat.chair.me.0.tickets ≡ self.old.seat.chair.me.0.tickets) × (self.new.seat.chair.me.0.ended ≡ self.old.seat.chair.me.0.ended) }
+        ensures told { Enters (told_of self.old.seat.chair.me.0) result (told_of self.new.seat.chair.me.0) }
+        ensures found { IfErr result (λ w. w.0 ≡ self.new.seat.chair.me.0.found) }
+    {
         self.seat.try_enter(self.gate)
     }
 
