@@ -1,5 +1,6 @@
 //! The words of a gate, as a thread's handle and as a stopped world.
-ghost use Rattle.std.specs.Prelude.{◌≡◌, false};
+ghost use Rattle.std.specs.Prelude.{◌≡◌, false, IfErr};
+ghost use Rattle.mon_words.specs.Told.{Enters};
 ghost use Rattle.mon_gate.specs.Seats.{Belongs};
 ghost use Rattle.mon_gate.specs.declared.view.Phase.TheVariants.{Out};
 ghost use Rattle.mon_board.specs.Views.{is_attached, told_of, halt_of};
@@ -8,8 +9,7 @@ use crate::rest::{HaltedTableRest, TableRest};
 use mon_gate::{Gate, Seat, Stopped};
 use mon_words::{Halted, Handle, WorldStopped};
 
-/// A thread's handle of the words of a gate.
-#[derive(Drop)]
+/// A thread's handle of the words of a gate. It is not dropped: `into_seat` gives the seat back once it is not attached.
 pub struct TableHandle<'g> {
     seat: Seat,
     gate: &'g Gate,
@@ -66,7 +66,13 @@ impl Handle for TableHandle<'_> {
         self.seat.poll(self.gate)
     }
 
-    fn try_enter(&mut self) -> Result<(), WorldStopped> {
+    /// One try to attach. A refusal carries the gate word that this try found.
+    fn try_enter(&mut self) -> Result<(), WorldStopped>
+        ensures gate { self.new.seat.chair.table_id ≡ self.old.seat.chair.table_id }
+        ensures kept { (self.new.seat.chair.me.0.threads ≡ self.old.seat.chair.me.0.threads) × (self.new.seat.chair.me.0.tickets ≡ self.old.seat.chair.me.0.tickets) × (self.new.seat.chair.me.0.ended ≡ self.old.seat.chair.me.0.ended) }
+        ensures told { Enters (told_of self.old.seat.chair.me.0) result (told_of self.new.seat.chair.me.0) }
+        ensures found { IfErr result (λ w. w.0 ≡ self.new.seat.chair.me.0.found) }
+    {
         self.seat.try_enter(self.gate)
     }
 

@@ -1,0 +1,6 @@
+use Rattle.std.proofs.Common.{ap}
+use Rattle.mon_board.specs.Views.{told_of}
+use Rattle.mon_board.proofs.table.TableHandleHandle.leave.Goals as goal
+
+pub returns-clause-told : goal.returns-clause-told
+returns-clause-told c = record { owns = c.leave.new.self.own; rest = ap told_of c.leave.ensures.view }
