@@ -3,3 +3,8 @@ pub mod Places
 pub mod Histories
 pub mod Clearing
 pub mod Standing
+pub mod Masks
+pub mod Growing
+pub mod Continuing
+pub mod Firsts
+pub mod Rewriting

@@ -1,7 +1,8 @@
 -- A location's word: bits 0 to 7 the opcode in place, 8 to 15 the base, 16 to 39 what is wanted, 40 to 63 what is live.
-use Rattle.std.specs.Prelude.{◌≡◌, ℕ, ◌+◌, ◌-◌, ◌*◌, ◌/◌, ◌%◌, ◌^◌, ◌<◌, ◌≤◌, Bool, ◌&&◌, cond, ◌==◌, nat_lt, bit_and}
+use Rattle.std.specs.Prelude.{◌≡◌, true, false, not, List, ◌++◌, map, replicate, Option, Some, None, ℕ, ◌+◌, ◌-◌, ◌*◌, ◌/◌, ◌%◌, ◌^◌, ◌<◌, ◌≤◌, Bool, ◌&&◌, cond, ◌==◌, nat_lt, bit_and}
 use Rattle.std.specs.Int.{bit_at}
-use Rattle.mon_events.specs.Events.{place}
+use Rattle.mon_events.specs.Events.{place, bit, is_local}
+use Rattle.mon_events.specs.declared.event.Event.{Event}
 use Rattle.mon_events.specs.declared.event.Slot.{Slot}
 use Rattle.mon_words.specs.declared.history.Cell.{Cell}
 use Rattle.mon_words.specs.declared.word.Parts.{Parts}
@@ -65,3 +66,36 @@ abbrev pub BitPlaces : ℕ → Type 0
 BitPlaces word = (slot : Slot) (tool : ℕ) → tool < 6
     → (is_bit (cell_of word).want (place slot tool) ≡ is_bit word (16 + place slot tool))
     × (is_bit (cell_of word).live (place slot tool) ≡ is_bit word (40 + place slot tool))
+
+-- a tool's bit of the global word for an event that is global alone, which has this number there
+abbrev pub is_wanted : ℕ → Option ℕ → ℕ → Bool
+is_wanted word (Some e) tool = is_bit word (6 * e + tool)
+is_wanted word None tool = false
+
+abbrev pub differ : Bool → Bool → Bool
+differ true b = not b
+differ false b = b
+
+-- the two bits of an event in a callback word: 1 keeps, 2 keeps and asks for no more; 3 is read as 0
+abbrev pub is_called : ℕ → Event → Bool
+is_called word e = differ (is_bit word (2 * bit e)) (is_bit word (2 * bit e + 1))
+
+-- 2 at an event that is not local is read as 1
+abbrev pub is_once : ℕ → Event → Bool
+is_once word e = is_local e && (not (is_bit word (2 * bit e)) && is_bit word (2 * bit e + 1))
+
+-- no event of a slot is enabled for a tool
+abbrev pub Quiet : Cell → Type 0
+Quiet c = (slot : Slot) (tool : ℕ) → tool < 6 → is_enabled c slot tool ≡ false
+
+-- how many words of a board stand before those of the locations: the global word and the callback words of six tools
+abbrev pub before_locations : ℕ
+before_locations = 7
+
+-- the first word of a location with this base opcode: nothing is wanted, and all is live
+abbrev pub first_word : ℕ → ℕ
+first_word base = word_of record { place = base; base = base; want = 0; live = 16777215 }
+
+-- the first words of a program, of which these are the base opcodes of the locations
+abbrev pub first_words : List ℕ → List ℕ
+first_words bases = replicate before_locations 0 ++ map first_word bases

@@ -1,7 +1,14 @@
-ghost use Rattle.std.specs.Prelude.{◌≡◌, ◌<◌, ◌^◌};
+ghost use Rattle.std.specs.Prelude.{◌≡◌, ◌<◌, ◌^◌, IsTrue, IfOk, map};
+ghost use Rattle.mon_events.specs.Events.{place};
+ghost use Rattle.mon_words.specs.History.{base_in};
+ghost use Rattle.mon_words.specs.Standing.{board_of, IsFirst};
 ghost use Rattle.mon_words.specs.Words as spec;
 
 use mon_events::Slot;
+use std::alloc::{AllocError, Global};
+
+/// The words of a board before those of the locations: the global word and the callback words of six tools.
+pub const BEFORE_LOCATIONS: usize = 7;
 
 /// The parts of a location's word: the opcode in place, the base opcode, and the want and live bits of all slots and
 /// tools, of 24 bits each.
@@ -79,4 +86,50 @@ pub fn bit_places(word: u64)
     ensures { spec.BitPlaces word }
 {
     let _ = word;
+}
+
+/// Whether a word has a bit.
+pub fn has_bit(word: u64, bit: u8) -> bool
+    requires { bit < 64 }
+    ensures { result ≡ spec.is_bit word bit }
+{
+    (word >> bit) % 2 == 1
+}
+
+/// All ones but the live bit of a slot and a tool.
+pub fn mask(slot: Slot, tool: u8) -> u64
+    requires { tool < 6 }
+    ensures { result ≡ spec.mask_of (place slot tool) }
+{
+    u64::MAX - (1_099_511_627_776 << (6 * slot.number() + tool))
+}
+
+/// Whether a word enables nothing. Where it is true, no event of a slot is enabled for a tool.
+pub fn is_quiet(word: u64) -> bool
+    ensures { IsTrue result → spec.Quiet (spec.cell_of word) }
+{
+    ((word >> 16) % 16_777_216) & (word >> 40) == 0
+}
+
+/// The first words of a program, whose locations have these base opcodes: nothing is wanted, and all is live. They can be a
+/// first board, of these bases.
+pub fn first_words(alloc: Global, bases: &[u8]) -> Result<Vec<u64>, AllocError>
+    ensures words { IfOk result (λ words. words.items ≡ spec.first_words bases.now) }
+    ensures first { IfOk result (λ words. IsFirst words.items) }
+    ensures bases { IfOk result (λ words. map base_in (board_of words.items).cells ≡ bases.now) }
+{
+    let mut words = Vec::new(alloc);
+    for _ in 0..BEFORE_LOCATIONS {
+        words.push(0)?;
+    }
+    for base in bases {
+        let parts = Parts {
+            place: *base,
+            base: *base,
+            want: 0,
+            live: 16_777_215,
+        };
+        words.push(pack(parts))?;
+    }
+    Ok(words)
 }
