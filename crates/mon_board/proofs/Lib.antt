@@ -1,4 +1,5 @@
 pub mod Bases
+pub mod Seats
 pub mod Steps
 pub mod Keeping
 pub mod Telling

@@ -1,5 +1,5 @@
 -- Each step of the one seat keeps the rule.
-use Rattle.std.proofs.Common.{◌≡◌, ℕ, zero, suc, ◌+◌, ◌-◌, ◌%◌, ◌<◌, ◌≤◌, ◌≢◌, List, [], ◌∷◌, ◌++◌, map, drop, length, get_or, set, replicate, sym, refl, ap, ◌∙◌, subst, ⊎_elim, arith, length-set, get_or-set_other, get_or-set_same, bit_and, eqb, Bool, true}
+use Rattle.std.proofs.Common.{◌≡◌, ℕ, zero, suc, ◌+◌, ◌-◌, ◌%◌, ◌<◌, ◌≤◌, ◌≢◌, List, [], ◌∷◌, ◌++◌, map, drop, length, get_or, set, replicate, sym, refl, ap, ◌∙◌, subst, ⊎_elim, arith, length-set, get_or-set_other, get_or-set_same, bit_and, eqb, false, true, Bool}
 use Rattle.std.specs.Prelude.{is_some}
 use mathlib.Core.Logic.{dite}
 use mathlib.Core.Option.{none, some, some-injective, some-ne-none}
@@ -12,15 +12,17 @@ use Rattle.atomic_table.proofs.Lists.{exchanged, at_set}
 use Rattle.mon_words.specs.Words.{cell_of, mask_of, normal, Allowed, Shows}
 use Rattle.mon_words.specs.History.{cell_at, clear_at, after, UpTo, HasBases, base_in}
 use Rattle.mon_words.specs.Standing.{size, board_of, IsFirst, Stands, Fine, Right, overlay, noted_of, count_of, table}
+use Rattle.mon_words.specs.Tallies.{loaded_at, loaded_global, loaded_callbacks, disabled_once, tried, polled_once, entered_once, read_at, rewritten_once}
 use Rattle.mon_words.specs.declared.history.Board.{Board}
 use Rattle.mon_words.specs.declared.history.Mark.{Mark}
 use Rattle.mon_words.specs.declared.history.Mark.TheVariants.{Off, Put}
 use Rattle.mon_words.specs.declared.history.Noted.{Noted}
 use Rattle.mon_words.specs.declared.history.Written.{Written}
+use Rattle.mon_words.specs.declared.tally.Tally.{Tally}
 use Rattle.mon_words.proofs.Histories.{after-off, after-put, upto-off, upto-put, upto-more, based-off, based-put}
 use Rattle.mon_words.proofs.Clearing.{apart}
 use Rattle.mon_words.proofs.Standing.{after-bases, same_length, same_base, bases_from, clear_stands, clear_stands_else, normal_stands, overlay-size, right_stands, right_base, table_at, noted_there, some_count, first_bases, first_stands, board-length}
-use Rattle.mon_board.specs.Plain.{first_board, PlainOk, PlainKept, first_plain, starting, Sat, standing, turned_to, polled, found, disabled, retired, tried, counted, noted, stored, put_of, released}
+use Rattle.mon_board.specs.Plain.{first_board, PlainOk, PlainKept, first_plain, starting, Sat, standing, turned_to, entered, polled, loaded, loaded_globally, loaded_for_tool, read, disabled, retired, counted, noted, stored, rewritten, put_of, released}
 use Rattle.mon_board.specs.Plain as plain
 use Rattle.mon_board.specs.declared.plain_view.PlainView.{PlainView}
 use Rattle.mon_board.specs.declared.plain_view.PlainPlan.{PlainPlan}
@@ -47,13 +49,21 @@ same_step : (about : PlainPlan) (s : State (Unit {0}) PlainView) (r : PlainKept 
 same_step about s r id i v w at mine = let x : ℕ = get_or s.words i 0 in
     only_me about s r id v w (set s.words i x) at (length-set s.words i x) (subst (λ (ws : List ℕ). PlainOk about ws w) (sym (set-get_or s.words i 0)) mine)
 
+-- the rule does not speak of the tally, nor of whose turn it is
+told_ok : (about : PlainPlan) (ws : List ℕ) (v : PlainView) (t : ℕ) (a : Bool) (y : Tally) → PlainOk about ws v → PlainOk about ws (record v { current = t; attached = a; tally = y })
+told_ok about ws v t a y o = record { threads_are = o.threads_are; first_is = o.first_is; based = o.based; long = o.long; counts = o.counts; high = o.high; noted = o.noted; right = o.right }
+
 pub turns : (about : PlainPlan) (n id i : ℕ) (m : Sat) → Allows (PlainKept about) n id m i (λ y. y) (turned_to (step n i 0 0 none) m)
-turns about n id i m s r long at fits = let o = r.ok id m.0 at in let w : PlainView = record m.0 { current = i } in
-    (w, keeps, tt, same_step about s r id i m.0 w at record { threads_are = o.threads_are; first_is = o.first_is; based = o.based; long = o.long; counts = o.counts; high = o.high; noted = o.noted; right = o.right }, refl)
+turns about n id i m s r long at fits = let w : PlainView = record m.0 { current = i; attached = false } in
+    (w, keeps, tt, same_step about s r id i m.0 w at (told_ok about s.words m.0 i false m.0.tally (r.ok id m.0 at)), refl)
+
+pub enters : (about : PlainPlan) (n id i : ℕ) (m : Sat) → Allows (PlainKept about) n id m i (λ y. y) (entered (step n i 0 0 none) m)
+enters about n id i m s r long at fits = let t : Tally = entered_once m.0.tally in let w : PlainView = record m.0 { attached = true; tally = t } in
+    (w, keeps, tt, same_step about s r id i m.0 w at (told_ok about s.words m.0 m.0.current true t (r.ok id m.0 at)), λ _. refl)
 
 pub polls : (about : PlainPlan) (n id i : ℕ) (m : Sat) → Allows (PlainKept about) n id m i (λ y. y) (polled (step n i 0 0 none) m)
-polls about n id i m s r long at fits = let o = r.ok id m.0 at in let w : PlainView = record m.0 { polls = m.0.polls + 1 } in
-    (w, keeps, tt, same_step about s r id i m.0 w at record { threads_are = o.threads_are; first_is = o.first_is; based = o.based; long = o.long; counts = o.counts; high = o.high; noted = o.noted; right = o.right }, refl)
+polls about n id i m s r long at fits = let t : Tally = polled_once m.0.tally false in let w : PlainView = record m.0 { tally = t } in
+    (w, keeps, tt, same_step about s r id i m.0 w at (told_ok about s.words m.0 m.0.current m.0.attached t (r.ok id m.0 at)), λ _. refl)
 
 -- what is known of the board that stands
 record Laid (about : PlainPlan) (s : State (Unit {0}) PlainView) (v : PlainView) : Type 0 where
@@ -80,8 +90,23 @@ shown about s r id i j v at place low = let o = r.ok id v at in let t = o.thread
     let e : i - v.threads ≡ j = omega arith in let f : about.threads + j ≡ i = omega arith in
     subst (λ (z : Board × ℕ × ℕ). Stands z.0 z.1 (get_or s.words z.2 0)) (λ k. (sym l.is k, sym e k, f k)) (l.stands j low')
 
-pub finds : (about : PlainPlan) (n id i j : ℕ) (m : Sat) → i ≡ m.0.threads + j → j < size m.0.first → Allows (PlainKept about) n id m i (λ y. y) (found (step n i 0 0 none) m)
-finds about n id i j m place low s r long at fits = (m.0, keeps, tt, same_step about s r id i m.0 m.0 at (r.ok id m.0 at), (shown about s r id i j m.0 at place low, refl))
+-- a word of the board is found
+finds : (about : PlainPlan) (n id i j : ℕ) (m : Sat) (t : Tally) → i ≡ m.0.threads + j → j < size m.0.first
+    → Allows (PlainKept about) n id m i (λ y. y) (λ x m'. Stands (standing m.0) (i - m.0.threads) x × (m' ≡ (record m.0 { tally = t }, m.1)))
+finds about n id i j m t place low s r long at fits = let w : PlainView = record m.0 { tally = t } in
+    (w, keeps, tt, same_step about s r id i m.0 w at (told_ok about s.words m.0 m.0.current m.0.attached t (r.ok id m.0 at)), (shown about s r id i j m.0 at place low, refl))
+
+pub loads : (about : PlainPlan) (n id i j : ℕ) (m : Sat) → i ≡ m.0.threads + j → j < size m.0.first → Allows (PlainKept about) n id m i (λ y. y) (loaded (step n i 0 0 none) m)
+loads about n id i j m place low = finds about n id i j m (loaded_at m.0.tally (i - m.0.threads - 7) (length m.0.seen)) place low
+
+pub loads_global : (about : PlainPlan) (n id i j : ℕ) (m : Sat) → i ≡ m.0.threads + j → j < size m.0.first → Allows (PlainKept about) n id m i (λ y. y) (loaded_globally (step n i 0 0 none) m)
+loads_global about n id i j m place low = finds about n id i j m (loaded_global m.0.tally) place low
+
+pub loads_callbacks : (about : PlainPlan) (n id i j : ℕ) (m : Sat) → i ≡ m.0.threads + j → j < size m.0.first → Allows (PlainKept about) n id m i (λ y. y) (loaded_for_tool (step n i 0 0 none) m)
+loads_callbacks about n id i j m place low = finds about n id i j m (loaded_callbacks m.0.tally (i - m.0.threads - 1)) place low
+
+pub reads : (about : PlainPlan) (n id i j : ℕ) (m : Sat) → i ≡ m.0.threads + j → j < size m.0.first → Allows (PlainKept about) n id m i (λ y. y) (read (step n i 0 0 none) m)
+reads about n id i j m place low = finds about n id i j m (read_at m.0.tally (i - m.0.threads - 7)) place low
 
 -- a word that may stand for what stands takes the place of one
 word_ok : (about : PlainPlan) (s : State (Unit {0}) PlainView) (r : PlainKept about s) (id i j y : ℕ) (v : PlainView) → get_elem? s.views id ≡ some v → i ≡ v.threads + j → j < size v.first → v.written ≡ []
@@ -107,22 +132,18 @@ word_ok about s r id i j y v at place low running shows =
           (λ ne. subst (Right first (after first v.seen) v.written a) (sym (get_or-set_other s.words i (about.threads + a) y 0 (λ e. ne (omega arith)))) (o.right a h));
     }
 
--- the rule does not speak of the tries to retire
-tried_ok : (about : PlainPlan) (ws : List ℕ) (v : PlainView) (location old : ℕ) (done : Bool) → PlainOk about ws v → PlainOk about ws (tried v location old done)
-tried_ok about ws v location old done o = record { threads_are = o.threads_are; first_is = o.first_is; based = o.based; long = o.long; counts = o.counts; high = o.high; noted = o.noted; right = o.right }
-
 pub retires : (about : PlainPlan) (n id l i old new : ℕ) (m : Sat) → i ≡ m.0.threads + (7 + l) → l < length m.0.first.cells → m.0.written ≡ [] → new ≡ normal old
     → Allows (PlainKept about) n id m i (λ y. either (eqb y old) new y) (retired (step n i old new none) m)
 retires about n id l i old new m place low running is-normal s r long at fits =
-    let x : ℕ = get_or s.words i 0 in let o₀ : ℕ = i - m.0.threads - 7 in let w : PlainView = tried m.0 o₀ old (eqb x old) in let at-l : o₀ ≡ l = omega arith in (
+    let x : ℕ = get_or s.words i 0 in let o₀ : ℕ = i - m.0.threads - 7 in let t : Tally = tried m.0.tally o₀ old (eqb x old) in let w : PlainView = record m.0 { tally = t } in let at-l : o₀ ≡ l = omega arith in (
       w,
       keeps,
       tt,
       exchanged x old new (λ y. PlainKept about record { words = set s.words i y; homes = s.homes; views = set s.views id w })
           (λ hit. only_me about s r id m.0 w (set s.words i new) at (length-set s.words i new)
-          (tried_ok about (set s.words i new) m.0 o₀ old (eqb x old) (word_ok about s r id i (7 + l) new m.0 at place (omega arith) running (λ b h. subst (Stands b (7 + l)) (sym (is-normal ∙ ap normal (sym hit))) (normal_stands b l x h)))))
+          (told_ok about (set s.words i new) m.0 m.0.current m.0.attached t (word_ok about s r id i (7 + l) new m.0 at place (omega arith) running (λ b h. subst (Stands b (7 + l)) (sym (is-normal ∙ ap normal (sym hit))) (normal_stands b l x h)))))
           (λ miss. only_me about s r id m.0 w (set s.words i x) at (length-set s.words i x)
-          (tried_ok about (set s.words i x) m.0 o₀ old (eqb x old) (word_ok about s r id i (7 + l) x m.0 at place (omega arith) running (λ b h. h)))),
+          (told_ok about (set s.words i x) m.0 m.0.current m.0.attached t (word_ok about s r id i (7 + l) x m.0 at place (omega arith) running (λ b h. h)))),
       λ _. ((shown about s r id i (7 + l) m.0 at place (omega arith)).location o₀ (omega arith), refl),
     )
 
@@ -131,7 +152,7 @@ pub disables : (about : PlainPlan) (n id i l k mask : ℕ) (m : Sat) → i ≡ m
 disables about n id i l k mask m place low running bit masks s r long at fits =
     let x : ℕ = get_or s.words i 0 in let v = m.0 in let o = r.ok id v at in let first : Board = first_board about in let t₀ = o.threads_are in let wide = r.wide in
     let o₀ : ℕ = i - v.threads - 7 in let y : ℕ = bit_and x mask in let ws : List ℕ = set s.words i y in let log' : List Mark = v.seen ++ Off v.current o₀ k ∷ [] in
-    let w : PlainView = record v { seen = log' } in let at-l : o₀ ≡ l = omega arith in
+    let w : PlainView = record v { seen = log'; tally = disabled_once v.tally } in let at-l : o₀ ≡ l = omega arith in
     let low' : o₀ < length first.cells = let q : l < length first.cells = subst (λ (f : Board). l < length f.cells) o.first_is low in omega arith in
     let board : Board = after first v.seen in let lay = laid about s r v o in let long-board = lay.long in
     let stood : Shows (cell_at (standing v) o₀) x = (shown about s r id i (7 + l) v at place (omega arith)).location o₀ (omega arith) in
@@ -158,13 +179,13 @@ disables about n id i l k mask m place low running bit masks s r long at fits =
             subst (Stands (clear_at board o₀ k) a) (sym now) (clear_stands_else board o₀ k a (get_or s.words (about.threads + a) 0) ne before)));
       },
       λ k' low-bit same. let e : k ≡ k' = apart k k' bit low-bit (sym masks ∙ same) in
-          (stood, ap (λ (z : ℕ). let r₀ : Sat = (record v { seen = v.seen ++ Off v.current o₀ z ∷ [] }, m.1) in r₀) e),
+          (stood, ap (λ (z : ℕ). let r₀ : Sat = (record v { seen = v.seen ++ Off v.current o₀ z ∷ []; tally = disabled_once v.tally }, m.1) in r₀) e),
     )
 
 pub counts : (about : PlainPlan) (n id i new : ℕ) (m : Sat) → i < m.0.threads → m.0.noted ≡ [] → get_or m.0.counts i 0 ≤ new → Allows (PlainKept about) n id m i (λ _. new) (λ _. counted (step n i new 0 none) m new)
 counts about n id i new m low running more s r long at fits =
     let v = m.0 in let o = r.ok id v at in let t₀ = o.threads_are in let wide = r.wide in let len = o.long in let ws : List ℕ = set s.words i new in
-    let w : PlainView = record v { counts = set v.counts i new } in (
+    let w : PlainView = record v { counts = set v.counts i new; attached = false } in (
       w,
       keeps,
       tt,
@@ -203,10 +224,10 @@ notes about n id i m low s r long at fits =
       (is, subst (λ (c : ℕ). UpTo i c v.seen) (sym is) (o.high i (omega arith)), refl),
     )
 
-pub stores : (about : PlainPlan) (n id i j new : ℕ) (m : Sat) → i ≡ m.0.threads + j → j < size m.0.first
+puts : (about : PlainPlan) (n id i j new : ℕ) (m : Sat) (t : Tally) → i ≡ m.0.threads + j → j < size m.0.first
     → ((l : ℕ) → j ≡ 7 + l → ((cell_of new).base ≡ (cell_at (standing m.0) l).base) × Allowed (cell_of new) (new % 256))
-    → Allows (PlainKept about) n id m i (λ _. new) (λ _. stored (step n i new 0 none) m new)
-stores about n id i j new m place low fine s r long at fits =
+    → Allows (PlainKept about) n id m i (λ _. new) (λ _ m'. m' ≡ (record m.0 { written = record { place = i - m.0.threads; word = new } ∷ m.0.written; tally = t }, m.1))
+puts about n id i j new m t place low fine s r long at fits =
     let v = m.0 in let o = r.ok id v at in let t₀ = o.threads_are in let wide = r.wide in let first : Board = first_board about in let ws : List ℕ = set s.words i new in
     let o₀ : ℕ = i - v.threads in let at-j : o₀ ≡ j = omega arith in
     let low' : j < size first = subst (λ (f : Board). j < size f) o.first_is low in
@@ -216,7 +237,7 @@ stores about n id i j new m place low fine s r long at fits =
     let there : Stands (overlay started v.written) (7 + l) (get_or s.words (about.threads + (7 + l)) 0) = lay.stands (7 + l) (omega arith) in
     let old-base : (cell_at (overlay started v.written) l).base ≡ (cell_at first l).base = ap base_in (sym (there.location l refl).0) ∙ right_base first started v.written l (get_or s.words (about.threads + (7 + l)) 0) (same_base (plain.first_bases about) started first l lay.started r.first) right in
     (f.0 ∙ (ap (λ (b : Board). (cell_at b l).base) lay.is ∙ old-base), f.1) in
-    let w : PlainView = record v { written = record { place = o₀; word = new } ∷ v.written } in (
+    let w : PlainView = record v { written = record { place = o₀; word = new } ∷ v.written; tally = t } in (
       w,
       keeps,
       tt,
@@ -237,6 +258,14 @@ stores about n id i j new m place low fine s r long at fits =
       },
       refl,
     )
+
+pub stores : (about : PlainPlan) (n id i j new : ℕ) (m : Sat) → i ≡ m.0.threads + j → j < 7 → Allows (PlainKept about) n id m i (λ _. new) (λ _. stored (step n i new 0 none) m new)
+stores about n id i j new m place low = puts about n id i j new m m.0.tally place (omega arith) (λ l e. absurd (omega arith))
+
+pub rewrites : (about : PlainPlan) (n id i l new : ℕ) (m : Sat) → i ≡ m.0.threads + (7 + l) → l < length m.0.first.cells
+    → (cell_of new).base ≡ (cell_at (standing m.0) l).base → Allowed (cell_of new) (new % 256) → Allows (PlainKept about) n id m i (λ _. new) (λ _. rewritten (step n i new 0 none) m new)
+rewrites about n id i l new m place low base allowed = puts about n id i (7 + l) new m (rewritten_once m.0.tally) place (omega arith)
+    (λ k e. let same : l ≡ k = omega arith in (base ∙ ap (λ (z : ℕ). (cell_at (standing m.0) z).base) same, allowed))
 
 pub releases : (about : PlainPlan) (n id i : ℕ) (m : Sat) → ((t : ℕ) → t < m.0.threads → is_some (noted_of m.0.noted t) ≡ true) → Allows (PlainKept about) n id m i (λ y. y) (released (step n i 0 0 none) m)
 releases about n id i m all-noted s r long at fits =

@@ -1,4 +1,3 @@
 pub mod Views
 pub mod Plain
 pub mod PlainViews
-pub mod SameBoard

@@ -1,5 +1,5 @@
 -- What the one seat of a plain board tells of a thread, and of the halted board.
-use Rattle.std.specs.Prelude.{◌≡◌, ℕ, Bool, List, [], ◌∷◌, cond, ◌==◌, slice_index, slice_set, IsTrue, is_some}
+use Rattle.std.specs.Prelude.{◌≡◌, ℕ, List, [], ◌∷◌, cond, ◌==◌, slice_index, slice_set, IsTrue, is_some}
 use Rattle.mon_words.specs.History.{offs}
 use Rattle.mon_words.specs.Told.{Told}
 use Rattle.mon_words.specs.Halted.{Halt}
@@ -9,8 +9,8 @@ use Rattle.mon_words.specs.declared.history.Mark.TheVariants.{Off, Put}
 use Rattle.mon_board.specs.Plain.{standing}
 use Rattle.mon_board.specs.declared.plain_view.PlainView.{PlainView}
 
-abbrev pub plain_told : ℕ → Bool → PlainView → Told
-plain_told thread attached v = record { number = thread; first = v.first; seen = v.seen; own = offs thread v.seen; attached = attached; count = slice_index v.counts thread; polls = v.polls; polled = 0; retirements = v.retirements }
+abbrev pub plain_told : ℕ → PlainView → Told
+plain_told thread v = record { number = thread; first = v.first; seen = v.seen; own = offs thread v.seen; attached = v.attached; count = slice_index v.counts thread; tally = v.tally }
 
 -- the stored counts, with 0 in place of the thread's own
 abbrev pub other_counts : ℕ → List ℕ → List ℕ
@@ -23,7 +23,7 @@ other_marks thread (Off t l k ∷ ms) = cond (t == thread) (other_marks thread m
 other_marks thread (Put stops b ∷ ms) = Put stops b ∷ other_marks thread ms
 
 abbrev pub plain_halt : PlainView → Halt
-plain_halt v = record { first = v.first; threads = v.threads; seen = v.seen; board = standing v; noted = noted_of v.noted; written = rewrites v.written }
+plain_halt v = record { first = v.first; threads = v.threads; seen = v.seen; board = standing v; noted = noted_of v.noted; written = rewrites v.written; tally = v.tally }
 
 -- nothing was stored or noted since the last release
 abbrev pub IsRunning : PlainView → Type 0

@@ -13,7 +13,7 @@ is_attached Attached = true
 is_attached _ = false
 
 abbrev pub told_of : View → Told
-told_of v = record { number = v.number; first = v.first; seen = v.seen; own = v.mine; attached = is_attached v.phase; count = v.stored; polls = v.tally.polls; polled = v.tally.polled; retirements = v.tally.retirements }
+told_of v = record { number = v.number; first = v.first; seen = v.seen; own = v.mine; attached = is_attached v.phase; count = v.stored; tally = v.tally }
 
 abbrev pub halt_of : View → Halt
-halt_of v = record { first = v.first; threads = v.threads; seen = v.seen; board = standing v; noted = noted_of v.noted; written = rewrites v.written }
+halt_of v = record { first = v.first; threads = v.threads; seen = v.seen; board = standing v; noted = noted_of v.noted; written = rewrites v.written; tally = v.tally }

@@ -3,9 +3,8 @@ ghost use Rattle.std.specs.Prelude.{◌≡◌, ◌++◌, ◌∷◌, [], ◌<◌,
 ghost use Rattle.mon_words.specs.Standing.{noted_of};
 ghost use Rattle.mon_board.specs.Plain.{put_of};
 ghost use Rattle.mon_board.specs.PlainViews.{plain_halt, IsRunning, IsNoted};
-ghost use Rattle.mon_board.specs.SameBoard.{SameSize};
 
-use crate::plain::{BEFORE_LOCATIONS, PlainBoard};
+use crate::plain::PlainBoard;
 use crate::plain_rest::PlainHaltedRest;
 use mon_words::Halted;
 
@@ -30,7 +29,7 @@ impl PlainHalted<'_> {
     /// Adds the mark of the words and the counts that stand. Every thread's count was read.
     pub fn release(self)
         requires { (thread : ℕ) → thread < self.board.now.chair.me.0.threads → IsNoted self.board.now.chair.me.0 thread }
-        ensures size { SameSize self.entry.board.now self.exit.0.now }
+        ensures threads { self.exit.0.now.threads ≡ self.entry.board.now.threads }
         ensures view { self.exit.0.now.chair.me.0 ≡ record self.entry.board.now.chair.me.0 { seen = self.entry.board.now.chair.me.0.seen ++ put_of self.entry.board.now.chair.me.0 ∷ []; noted = []; written = [] } }
     {
         let PlainHalted { board } = self;
@@ -46,11 +45,11 @@ impl Halted for PlainHalted<'_> {
     ghost rest = { λ h. record { borrow = h.board.ghost_name; counts = h.board.now.chair.me.0.counts } };
 
     fn read(&mut self, location: u32) -> u64 {
-        self.board.word(BEFORE_LOCATIONS + location as usize)
+        self.board.read(location)
     }
 
     fn rewrite(&mut self, location: u32, word: u64) {
-        self.board.store(BEFORE_LOCATIONS + location as usize, word);
+        self.board.rewrite(location, word);
     }
 
     fn set_global(&mut self, word: u64) {

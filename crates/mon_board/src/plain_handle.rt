@@ -1,10 +1,10 @@
 //! A thread's handle of a plain board.
-ghost use Rattle.std.specs.Prelude.{◌≡◌, ◌<◌, false, IsOk};
+ghost use Rattle.std.specs.Prelude.{◌≡◌, ◌<◌, true, false, IsOk};
+ghost use Rattle.mon_words.specs.Tallies.{entered_once};
 ghost use Rattle.mon_words.specs.Told.{Enters};
 ghost use Rattle.mon_board.specs.PlainViews.{plain_told, other_counts, other_marks, IsRunning};
-ghost use Rattle.mon_board.specs.SameBoard.{SameSize};
 
-use crate::plain::{BEFORE_LOCATIONS, PlainBoard};
+use crate::plain::PlainBoard;
 use crate::plain_rest::PlainRest;
 use mon_words::{Handle, WorldStopped};
 
@@ -13,7 +13,6 @@ use mon_words::{Handle, WorldStopped};
 pub struct PlainHandle<'a> {
     board: &'a mut PlainBoard,
     thread: u8,
-    attached: bool,
     ghost low: { thread < board.now.threads },
     ghost current: { board.now.chair.me.0.current ≡ thread },
     ghost running: { IsRunning board.now.chair.me.0 },
@@ -25,16 +24,14 @@ impl PlainBoard {
         requires running { IsRunning self.old.chair.me.0 }
         requires within { thread < self.old.threads }
         ensures borrow { result.board.ghost_name ≡ self.entry.ghost_name }
-        ensures size { SameSize self.old result.board.now }
-        ensures view { result.board.now.chair.me.0 ≡ record self.old.chair.me.0 { current = thread } }
+        ensures threads { result.board.now.threads ≡ self.old.threads }
+        ensures view { result.board.now.chair.me.0 ≡ record self.old.chair.me.0 { current = thread; attached = false } }
         ensures thread { result.thread ≡ thread }
-        ensures detached { result.attached ≡ false }
     {
         self.turn(thread);
         PlainHandle {
             board: self,
             thread,
-            attached: false,
         }
     }
 }
@@ -42,12 +39,12 @@ impl PlainBoard {
 impl Handle for PlainHandle<'_> {
     type Rest = PlainRest;
 
-    ghost told = { λ h. plain_told h.thread h.attached h.board.now.chair.me.0 };
+    ghost told = { λ h. plain_told h.thread h.board.now.chair.me.0 };
 
     ghost rest = { λ h. record { borrow = h.board.ghost_name; threads = h.board.now.threads; counts = other_counts h.thread h.board.now.chair.me.0.counts; marks = other_marks h.thread h.board.now.chair.me.0.seen } };
 
     fn load(&mut self, location: u32) -> u64 {
-        self.board.word(BEFORE_LOCATIONS + location as usize)
+        self.board.load(location)
     }
 
     fn disable(&mut self, location: u32, mask: u64) -> u64 {
@@ -59,11 +56,11 @@ impl Handle for PlainHandle<'_> {
     }
 
     fn global(&mut self) -> u64 {
-        self.board.word(0)
+        self.board.global()
     }
 
     fn callbacks(&mut self, tool: u8) -> u64 {
-        self.board.word(1 + tool as usize)
+        self.board.callbacks(tool)
     }
 
     fn poll(&mut self) -> bool {
@@ -74,16 +71,18 @@ impl Handle for PlainHandle<'_> {
     /// Attaches, always.
     fn try_enter(&mut self) -> Result<(), WorldStopped>
         ensures borrow { self.new.board.ghost_name ≡ self.old.board.ghost_name }
-        ensures value { (self.new.board.now ≡ self.old.board.now) × (self.new.thread ≡ self.old.thread) }
-        ensures told { Enters (plain_told self.old.thread self.old.attached self.old.board.now.chair.me.0) result (plain_told self.new.thread self.new.attached self.new.board.now.chair.me.0) }
+        ensures thread { self.new.thread ≡ self.old.thread }
+        ensures threads { self.new.board.now.threads ≡ self.old.board.now.threads }
+        ensures view { self.new.board.now.chair.me.0 ≡ record self.old.board.now.chair.me.0 { attached = true; tally = entered_once self.old.board.now.chair.me.0.tally } }
+        ensures kept { (self.new.board.now.chair.me.0.counts ≡ self.old.board.now.chair.me.0.counts) × (self.new.board.now.chair.me.0.seen ≡ self.old.board.now.chair.me.0.seen) }
+        ensures told { Enters (plain_told self.old.thread self.old.board.now.chair.me.0) result (plain_told self.new.thread self.new.board.now.chair.me.0) }
         ensures granted { IsOk result }
     {
-        self.attached = true;
+        self.board.enter(self.thread);
         Ok(())
     }
 
     fn leave(&mut self, steps: u64) {
         self.board.count(self.thread, steps);
-        self.attached = false;
     }
 }

@@ -1,5 +1,5 @@
 //! The rule of a plain board, and the names of its kinds of step.
-ghost use Rattle.mon_board.specs.Plain.{PlainKept, starting, turned_to, polled, found, disabled, retired, counted, noted, stored, released};
+ghost use Rattle.mon_board.specs.Plain.{PlainKept, starting, turned_to, entered, polled, loaded, loaded_globally, loaded_for_tool, read, disabled, retired, counted, noted, stored, rewritten, released};
 
 use crate::plain_view::{PlainPlan, PlainView};
 use atomic_table::{Play, TableRule};
@@ -18,16 +18,40 @@ impl Play<(), PlainView> for Turn {
     ghost then = { turned_to };
 }
 
+pub struct Enter;
+
+impl Play<(), PlainView> for Enter {
+    ghost then = { entered };
+}
+
 pub struct Poll;
 
 impl Play<(), PlainView> for Poll {
     ghost then = { polled };
 }
 
-pub struct Find;
+pub struct Load;
 
-impl Play<(), PlainView> for Find {
-    ghost then = { found };
+impl Play<(), PlainView> for Load {
+    ghost then = { loaded };
+}
+
+pub struct LoadGlobal;
+
+impl Play<(), PlainView> for LoadGlobal {
+    ghost then = { loaded_globally };
+}
+
+pub struct LoadCallbacks;
+
+impl Play<(), PlainView> for LoadCallbacks {
+    ghost then = { loaded_for_tool };
+}
+
+pub struct Read;
+
+impl Play<(), PlainView> for Read {
+    ghost then = { read };
 }
 
 pub struct Disable;
@@ -58,6 +82,12 @@ pub struct Store;
 
 impl Play<(), PlainView> for Store {
     ghost then = { stored };
+}
+
+pub struct Rewrite;
+
+impl Play<(), PlainView> for Rewrite {
+    ghost then = { rewritten };
 }
 
 pub struct Release;

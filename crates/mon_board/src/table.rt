@@ -8,8 +8,7 @@ use crate::rest::{HaltedTableRest, TableRest};
 use mon_gate::{Gate, Seat, Stopped};
 use mon_words::{Halted, Handle, WorldStopped};
 
-/// A thread's handle of the words of a gate.
-#[derive(Drop)]
+/// A thread's handle of the words of a gate. It is not dropped: `into_seat` gives the seat back once it is not attached.
 pub struct TableHandle<'g> {
     seat: Seat,
     gate: &'g Gate,

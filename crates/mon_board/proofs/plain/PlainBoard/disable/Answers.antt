@@ -13,13 +13,13 @@ fetch_and-requires c = (search rules, search rules, disables _ _ _ _ c.args.loca
 
 pub invariant_of-self-2-clause-based : goal.invariant_of-self-2-clause-based
 invariant_of-self-2-clause-based c = let v : PlainView = c.args.self.now.chair.me.0 in let t = c.fetch_and.ensures.2 c.requires.mask.0 c.requires.mask.1 c.requires.mask.2 in
-    (keeping.disabled v c.fetch_and.new.seat.me.0 _ _ _ c.requires.running.0 (ap (λ m. m.0) t.1) record { based = c.args.self.now.based; six = c.args.self.now.six }).based
+    (keeping.disabled v c.fetch_and.new.seat.me.0 _ _ _ _ c.requires.running.0 (ap (λ m. m.0) t.1) record { based = c.args.self.now.based; six = c.args.self.now.six }).based
 
 pub invariant_of-self-2-clause-six : goal.invariant_of-self-2-clause-six
 invariant_of-self-2-clause-six c = let v : PlainView = c.args.self.now.chair.me.0 in let t = c.fetch_and.ensures.2 c.requires.mask.0 c.requires.mask.1 c.requires.mask.2 in
-    (keeping.disabled v c.fetch_and.new.seat.me.0 _ _ _ c.requires.running.0 (ap (λ m. m.0) t.1) record { based = c.args.self.now.based; six = c.args.self.now.six }).six
+    (keeping.disabled v c.fetch_and.new.seat.me.0 _ _ _ _ c.requires.running.0 (ap (λ m. m.0) t.1) record { based = c.args.self.now.based; six = c.args.self.now.six }).six
 
 pub returns-clause-word : goal.returns-clause-word
 returns-clause-word c = let t = c.fetch_and.ensures.2 c.requires.mask.0 c.requires.mask.1 c.requires.mask.2 in
-    let spot : c.args.self.now.threads + 7 + c.args.location - c.args.self.now.chair.me.0.threads - 7 ≡ c.args.location = omega arith in
+    let spot : c.place-place.result - c.args.self.now.chair.me.0.threads - 7 ≡ c.args.location = omega arith in
     subst (λ z. Shows (cell_at (standing c.args.self.now.chair.me.0) z) c.fetch_and.result) spot t.0

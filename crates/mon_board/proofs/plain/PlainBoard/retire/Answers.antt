@@ -11,5 +11,5 @@ compare_exchange-found-requires c = (search rules, search rules, retires _ _ _ c
 pub returns-clause-answer : goal.returns-clause-answer
 returns-clause-answer c =
     let v = c.args.self.now.chair.me.0 in let n : ℕ = c.compare_exchange-found.result in
-    let l : c.args.self.now.threads + 7 + c.args.location - v.threads - 7 ≡ c.args.location = omega arith in
+    let l : c.place-place.result - v.threads - 7 ≡ c.args.location = omega arith in
     (n, refl, subst (λ (z : ℕ). Shows (cell_at (standing v) z) n) l (c.compare_exchange-found.ensures.2 c.normal-new.ensures).0)

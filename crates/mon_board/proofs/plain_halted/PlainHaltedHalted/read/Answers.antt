@@ -1,5 +1,6 @@
-use Rattle.std.proofs.Common.{refl}
+use Rattle.mon_words.specs.History.{after}
+use Rattle.mon_words.proofs.Rewriting.{overlay-cells}
 use Rattle.mon_board.proofs.plain_halted.PlainHaltedHalted.read.Goals as goal
 
-pub returns-clause-shows : goal.returns-clause-shows
-returns-clause-shows c = c.word.ensures.word.location c.args.location refl
+pub returns-clause-lawful : goal.returns-clause-lawful
+returns-clause-lawful c = let v = c.args.self.now.board.now.chair.me.0 in overlay-cells (after v.first v.seen) v.written
