@@ -6,7 +6,6 @@ use Rattle.std.proofs.lemmas.Nat.Bits.{bit_at_and}
 use Rattle.std.proofs.lemmas.Bool.Decides.{nat_tests}
 use Rattle.mon_events.specs.declared.event.Event.{Event}
 use Rattle.mon_events.specs.declared.event.Slot.TheVariants as slot
-use Rattle.mon_recorders.specs.declared.record.Record.{Record}
 use Rattle.mon_machine.specs.Events.{happens, line_events}
 use Rattle.mon_events.specs.declared.op.Op.{Op}
 use Rattle.mon_code.specs.declared.program.Code.{Code}

@@ -5,8 +5,7 @@ use Rattle.std.proofs.Math.Seq.{take-length}
 use Rattle.mon_code.specs.Programs.{Parts}
 use Rattle.mon_words.specs.declared.history.Board.{Board}
 use Rattle.mon_words.specs.declared.history.Mark.{Mark}
-use Rattle.mon_words.specs.History.{after, offs, Begins}
-use Rattle.mon_words.specs.Told.{Told, Sees}
+use Rattle.mon_words.specs.History.{after, Begins}
 use Rattle.mon_recorders.specs.declared.record.Record.{Record}
 use Rattle.mon_machine.specs.State.{State, goes}
 use Rattle.mon_machine.specs.Step.{step}
@@ -16,28 +15,8 @@ use Rattle.mon_machine.proofs.Runs.{after_steps_none, one_more, goes_none, goes_
 use Rattle.mon_machine.proofs.Printed.{printed_none, printed_last}
 use Rattle.mon_interp.specs.Machines.{Stepped}
 
-pub begins_refl : (xs : List Mark) → Begins xs xs
-begins_refl xs = record { more = []; is = sym (append-nil xs) }
-
-pub begins_trans : (xs ys zs : List Mark) → Begins xs ys → Begins ys zs → Begins xs zs
-begins_trans xs ys zs a b = record { more = a.more ++ b.more; is = b.is ∙ ap (λ (l : List Mark). l ++ b.more) a.is ∙ append_assoc xs a.more b.more }
-
 begins_length : (xs ys : List Mark) → Begins xs ys → length xs ≤ length ys
 begins_length xs ys a = omega (arith, ap length a.is, length-append xs a.more)
-
-pub sees_refl : (a : Told) → Sees a a
-sees_refl a = record { begins = begins_refl a.seen; quiet = refl; own = λ h. h; rest = refl }
-
-pub sees_trans : (a b c : Told) → Sees a b → Sees b c → Sees a c
-sees_trans a b c h k =
-    let number : b.number ≡ a.number = ap (λ (t : Told). t.number) h.rest in
-    let own : b.own ≡ a.own = ap (λ (t : Told). t.own) h.rest in
-    record {
-      begins = begins_trans a.seen b.seen c.seen h.begins k.begins;
-      quiet = k.quiet ∙ h.quiet;
-      own = λ o. subst (λ (n : ℕ). offs n c.seen ≡ a.own) number (k.own (subst (λ (n : ℕ). offs n b.seen ≡ b.own) (sym number) (h.own o ∙ sym own)) ∙ own);
-      rest = k.rest ∙ ap (λ (t : Told). let s : Told = record t { seen = c.seen } in s) h.rest;
-    }
 
 -- one more position at the end
 between_more : (low : ℕ) (positions : List ℕ) (high next : ℕ) → Between low positions high → high ≤ next → Between low (positions ++ next ∷ []) next

@@ -11,13 +11,13 @@ use Rattle.mon_frames.specs.declared.call.Call.{Call}
 use Rattle.mon_frames.specs.declared.call.Origin.{Origin}
 use Rattle.mon_frames.specs.declared.call.Origin.TheVariants.{Plain, Generator as Generated}
 use Rattle.mon_frames.specs.Calls.{handler_due}
-use Rattle.mon_frames.specs.Views.{FramesView, top_of, origin_of, without_top}
+use Rattle.mon_frames.specs.Views.{FramesView, top_of, origin_of}
 use Rattle.mon_machine.specs.declared.mode.Mode.{Mode}
 use Rattle.mon_machine.specs.declared.mode.Ending.{Ending}
-use Rattle.mon_machine.specs.State.{Move, with_frame, moved}
+use Rattle.mon_machine.specs.State.{State, Move, with_frame, moved}
 use Rattle.mon_machine.specs.Moves.{pushes}
-use Rattle.mon_machine.specs.Step.{in_mode_of, origin_in, gives_caller, takes_value, stands_at, unwinds, unwinds_from, caught_in, goes_out}
-use Rattle.mon_interp.specs.Moving.{Stands, goes_out_from, leaves_raised}
+use Rattle.mon_machine.specs.Step.{in_mode_of, origin_in, gives_caller, takes_value, stands_at, unwinds, unwinds_from, caught_in}
+use Rattle.mon_interp.specs.Moving.{Stands}
 
 pub origins_same : (calls : List Call) → origin_in calls ≡ origin_of calls
 origins_same [] = refl
@@ -53,19 +53,12 @@ caught p v (call ∷ calls) e f h is n =
     ∙ ap (λ (o : Option Handler). (unwinds_from p v call.origin e f o).after) (sym n)
     ∙ catches_in p v call.origin e f h
 
-out_of : (p : Parts) (v : FramesView) (calls : List Call) (e : Exc) (f : Frame) → (goes_out p v calls e f).after ≡ goes_out_from v calls e
-out_of p v [] e f = refl
-out_of p v (call ∷ calls) e f = refl
-
-leaves_by : (p : Parts) (v : FramesView) (origin : Origin) (e : Exc) (f : Frame) → (unwinds_from p v origin e f None).after ≡ leaves_raised v (Some origin) e
-leaves_by p v Plain e f = out_of p (without_top v) (without_top v).calls e f
-leaves_by p v (Generated number by) e f = refl
-
--- an exception leaves the innermost frame
-pub uncaught : (p : Parts) (v : FramesView) (calls : List Call) (e : Exc) (f : Frame) → top_of calls ≡ Some f → None ≡ handler_due p f.code f.index → (unwinds p v e calls).after ≡ leaves_raised v (origin_of calls) e
-uncaught p v [] e f is n = absurd cc
-uncaught p v (call ∷ calls) e f is n =
+-- or it leaves this frame
+pub uncaught : (p : Parts) (v : FramesView) (calls : List Call) (e : Exc) (f : Frame) (last : State) → top_of calls ≡ Some f → None ≡ handler_due p f.code f.index
+    → ((g : Frame) (origin : Origin) → origin_of calls ≡ Some origin → (unwinds_from p v origin e g None).after ≡ last) → (unwinds p v e calls).after ≡ last
+uncaught p v [] e f last is n leaves = absurd cc
+uncaught p v (call ∷ calls) e f last is n leaves =
     let same : call.frame ≡ f = cc in
     ap (λ (g : Frame). (unwinds_from p v call.origin e g (handler_due p g.code g.index)).after) same
     ∙ ap (λ (o : Option Handler). (unwinds_from p v call.origin e f o).after) (sym n)
-    ∙ leaves_by p v call.origin e f
+    ∙ leaves f call.origin refl

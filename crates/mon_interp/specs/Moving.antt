@@ -3,11 +3,7 @@ use Rattle.std.specs.Prelude.{◌≡◌, ℕ, ◌<◌, List, [], ◌∷◌, Opti
 use Rattle.std.specs.declared.vec.Vec.{Vec}
 use Rattle.std.specs.declared.alloc.Global.{Global}
 use Rattle.mon_values.specs.declared.value.Value.{Value}
-use Rattle.mon_frames.specs.Views.{FramesView, without_top}
-use Rattle.mon_frames.specs.declared.call.Origin.{Origin}
-use Rattle.mon_frames.specs.declared.call.Origin.TheVariants.{Plain, Generator as Generated}
-use Rattle.mon_recorders.specs.declared.report.Outcome.{Outcome}
-use Rattle.mon_machine.specs.declared.mode.Mode.{Mode}
+use Rattle.mon_frames.specs.Views.{FramesView}
 use Rattle.mon_frames.specs.declared.frame.Frame.{Frame}
 use Rattle.mon_frames.specs.declared.call.Call.{Call}
 use Rattle.mon_events.specs.declared.event.Event.{Event}
@@ -15,7 +11,7 @@ use Rattle.mon_values.specs.declared.value.Exc.{Exc}
 use Rattle.mon_machine.specs.declared.mode.Ending.{Ending}
 use Rattle.mon_machine.specs.State.{State, FrameMove, Move}
 use Rattle.mon_code.specs.Programs.{Parts}
-use Rattle.mon_machine.specs.Step.{in_mode_of, after_ending}
+use Rattle.mon_machine.specs.Step.{after_ending}
 use Rattle.mon_machine.specs.Moves.{callee_in, args_in, below_in, with_stack}
 use Rattle.mon_interp.specs.declared.done.Done.{Done}
 
@@ -53,14 +49,3 @@ thrown e = record { ending = Ending.Raises e; printed = None; ancillary = Some E
 abbrev pub TakesCall : ℕ → Option (Value × Vec Value Global) → Frame → Frame → Type 0
 TakesCall count None old new = (callee_in count old.stack ≡ None) × (new ≡ old)
 TakesCall count (Some (callee, args)) old new = (callee_in count old.stack ≡ Some callee) × (args.items ≡ args_in count old.stack) × (new ≡ with_stack old (below_in count old.stack))
-
--- where an exception goes on that left a frame: in the frame that made the call, or nowhere
-abbrev pub goes_out_from : FramesView → List Call → Exc → State
-goes_out_from v [] e = in_mode_of v (Mode.Ended (Outcome.Raised e))
-goes_out_from v (call ∷ calls) e = in_mode_of v (Mode.Unwind e)
-
--- the top frame is left by an exception; that of a generator is not so far
-abbrev pub leaves_raised : FramesView → Option Origin → Exc → State
-leaves_raised v None e = in_mode_of v Mode.Stuck
-leaves_raised v (Some (Generated number by)) e = in_mode_of v Mode.Stuck
-leaves_raised v (Some Plain) e = goes_out_from (without_top v) (without_top v).calls e

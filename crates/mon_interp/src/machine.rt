@@ -59,10 +59,10 @@ fn turn(place: &mut Mode, mode: Mode)
 }
 
 impl Machine {
-    ghost use Rattle.std.specs.Prelude.{◌≡◌, ◌+◌, ◌<◌, ◌≤◌, ◌^◌, Some, map, true, ℕ, Bool, IsTrue, OnOk, IfOk};
+    ghost use Rattle.std.specs.Prelude.{◌≡◌, ◌+◌, ◌<◌, ◌≤◌, ◌^◌, Some, map, true, ℕ, Bool, IsTrue, OnOk, IfOk, []};
     ghost use Rattle.mon_words.specs.Words.{cell_of};
     ghost use Rattle.mon_words.specs.History.{after, cell_at, base_in};
-    ghost use Rattle.mon_words.specs.Told.{Told, Sees};
+    ghost use Rattle.mon_words.specs.Told.{Told, Grows};
     ghost use Rattle.mon_code.specs.Programs.{Parts};
     ghost use Rattle.mon_frames.specs.declared.frame.Frame.{Frame as FrameOf};
     ghost use Rattle.mon_frames.specs.Views.{top_of};
@@ -131,6 +131,7 @@ impl Machine {
     }
 
     /// One instruction, whatever stands at the location of the innermost frame.
+    #[tactic(auto, using(mon_words::proofs::Growing::grows_refl, mon_words::proofs::Growing::grows_load))]
     fn run_step<H: Handle>(&mut self, program: &Program, handle: &mut H) -> Result<(), AllocError>
         requires attached { IsTrue (H.told handle.old).attached }
         requires bases { map base_in (H.told handle.old).first.cells ≡ program.now.bases }
@@ -138,7 +139,7 @@ impl Machine {
         requires runs { self.old.mode ≡ Run }
         ensures step { OnOk result (Stepped (step program.now (state_of self.old)) (is_heard (after (H.told handle.old).first (H.told handle.new).seen)) (progress_of self.old) (progress_of self.new)) }
         ensures counted { (self.old.steps ≤ self.new.steps) × (self.new.steps ≤ self.old.steps + 1) }
-        ensures sees { Sees (H.told handle.old) (H.told handle.new) }
+        ensures grows { Grows (H.told handle.old) (H.told handle.new) [] }
         ensures rest { H.rest handle.new ≡ H.rest handle.old }
     {
         if self.frames.depth() == 0 {
@@ -188,6 +189,7 @@ impl Machine {
     }
 
     /// One step, in a mode that goes on.
+    #[tactic(auto, using(mon_words::proofs::Growing::grows_refl))]
     fn one_step<H: Handle>(&mut self, program: &Program, handle: &mut H) -> Result<(), AllocError>
         requires attached { IsTrue (H.told handle.old).attached }
         requires bases { map base_in (H.told handle.old).first.cells ≡ program.now.bases }
@@ -195,7 +197,7 @@ impl Machine {
         requires goes { goes self.old.mode ≡ true }
         ensures step { OnOk result (Stepped (step program.now (state_of self.old)) (is_heard (after (H.told handle.old).first (H.told handle.new).seen)) (progress_of self.old) (progress_of self.new)) }
         ensures counted { (self.old.steps ≤ self.new.steps) × (self.new.steps ≤ self.old.steps + 1) }
-        ensures sees { Sees (H.told handle.old) (H.told handle.new) }
+        ensures grows { Grows (H.told handle.old) (H.told handle.new) [] }
         ensures rest { H.rest handle.new ≡ H.rest handle.old }
     {
         if matches!(self.mode, Mode::Run) {
@@ -222,7 +224,7 @@ impl Machine {
         ensures goes { IfOk result (λ on. on ≡ goes self.new.mode) }
         ensures spent { IfOk result (λ on. IsTrue on → self.new.steps ≡ self.old.steps + steps) }
         ensures counted { (self.old.steps ≤ self.new.steps) × (self.new.steps ≤ self.old.steps + steps) }
-        ensures sees { Sees (H.told handle.old) (H.told handle.new) }
+        ensures grows { Grows (H.told handle.old) (H.told handle.new) [] }
         ensures rest { H.rest handle.new ≡ H.rest handle.old }
     {
         for _turn in 0..steps {

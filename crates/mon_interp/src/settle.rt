@@ -1,9 +1,11 @@
 //! How a thread goes on after an instruction, and with an exception that is raised.
 
-ghost use Rattle.std.specs.Prelude.{◌≡◌, ◌<◌, length, OnOk, OnSome, IfOk};
+ghost use Rattle.std.specs.Prelude.{◌≡◌, ◌<◌, length, Some, None, OnOk, OnSome, IfOk};
+ghost use Rattle.mon_code.specs.Programs.{Parts};
+ghost use Rattle.mon_frames.specs.declared.call.Origin.{Origin as OriginOf};
+ghost use Rattle.mon_frames.specs.declared.frame.Frame.{Frame as FrameOf};
 ghost use Rattle.mon_frames.specs.Views.{origin_of};
 ghost use Rattle.mon_machine.specs.Step as spec;
-ghost use Rattle.mon_interp.specs.Moving.{goes_out_from, leaves_raised};
 
 use crate::iterate::push_top;
 use mon_code::{Handler, Location, Program};
@@ -90,7 +92,7 @@ fn catch(frame: &mut Frame, handler: Handler, exc: Exc) -> Result<(), AllocError
 
 // An exception goes on in the frame that made the call, or ends the thread where there is none.
 fn go_out(frames: &Frames, exc: Exc) -> Mode
-    ensures { goes_out_from frames.now frames.now.calls exc ≡ record { frames = frames.now; mode = result } }
+    ensures { (p : Parts) (f : FrameOf) → (spec.goes_out p frames.now frames.now.calls exc f).after ≡ record { frames = frames.now; mode = result } }
 {
     if frames.depth() == 0 {
         Mode::Ended(Outcome::Raised(exc))
@@ -102,7 +104,7 @@ fn go_out(frames: &Frames, exc: Exc) -> Mode
 // An exception that the top frame does not catch leaves it. That of a generator is not left so far.
 fn leave_raised(frames: &mut Frames, exc: Exc) -> Mode
     requires { 0 < length frames.old.calls }
-    ensures { leaves_raised frames.old (origin_of frames.old.calls) exc ≡ record { frames = frames.new; mode = result } }
+    ensures { (p : Parts) (f : FrameOf) (origin : OriginOf) → origin_of frames.old.calls ≡ Some origin → (spec.unwinds_from p frames.old origin exc f None).after ≡ record { frames = frames.new; mode = result } }
 {
     match frames.origin() {
         Origin::Generator(_, _) => Mode::Stuck,

@@ -86,9 +86,9 @@ impl Model for Thread {
 }
 
 impl Thread {
-    ghost use Rattle.std.specs.Prelude.{◌≡◌, ◌+◌, ◌≤◌, length, map, true, false, not, IsTrue, OnOk, OnErr, IfOk, Ok, Err};
+    ghost use Rattle.std.specs.Prelude.{◌≡◌, ◌+◌, ◌≤◌, length, map, true, false, not, IsTrue, OnOk, OnErr, IfOk, Ok, Err, []};
     ghost use Rattle.mon_words.specs.History.{after, base_in};
-    ghost use Rattle.mon_words.specs.Told.{Sees};
+    ghost use Rattle.mon_words.specs.Told.{Grows};
     ghost use Rattle.mon_machine.specs.State.{goes};
     ghost use Rattle.mon_machine.specs.Run.{Ran};
     ghost use Rattle.mon_machine.specs.Bare.{IsBare, plain_after};
@@ -166,7 +166,7 @@ impl Thread {
         ensures counted { (self.old.progress.steps ≤ self.new.progress.steps) × (self.new.progress.steps ≤ self.old.progress.steps + steps) }
 
         // the handle: more may have been seen, in which no disable is this thread's
-        ensures sees { Sees (H.told handle.old) (H.told handle.new) }
+        ensures grows { Grows (H.told handle.old) (H.told handle.new) [] }
         ensures rest { H.rest handle.new ≡ H.rest handle.old }
     {
         if self.failed {

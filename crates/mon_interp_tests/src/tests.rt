@@ -15,28 +15,33 @@ use std::alloc::{AllocError, Global};
 use std::process::Abort;
 use std::test::Fail;
 
-/// Words that nobody changes, of which each load answers the most instrumented opcode in place. It counts the loads; any
-/// other call ends the test.
+/// Words that nobody changes, of which each load answers the most instrumented opcode in place. It keeps the locations
+/// that were loaded, which are at most a hundred; any other call ends the test.
 #[derive(Drop)]
 struct LoudWords<'a, R: Abort> {
     rt: &'a R,
     words: Vec<u64>,
     attached: bool,
-    loads: u64,
+    loads: Vec<u32>,
 }
 
 impl<R: Abort> Handle for LoudWords<'_, R> {
     ghost use Rattle.std.specs.Prelude.{map, []};
+    ghost use Rattle.mon_words.specs.Tallies.{no_tally};
     ghost use Rattle.mon_words.specs.Words.{cell_of};
+    ghost use Rattle.mon_words.specs.declared.tally.Load.TheVariants.{Location as LoadOf};
 
     type Rest = ();
 
-    ghost told = { λ w. record { number = 0; first = record { global = 0; callbacks = []; cells = map cell_of w.words.items }; seen = []; own = []; attached = w.attached; count = 0; polls = 0; polled = 0; retirements = [] } };
+    ghost told = { λ w. record { number = 0; first = record { global = 0; callbacks = []; cells = map cell_of w.words.items }; seen = []; own = []; attached = w.attached; count = 0; tally = record no_tally { loads = map (λ l. LoadOf l 0) w.loads.items } } };
 
     ghost rest = { λ w. tt };
 
     fn load(&mut self, location: u32) -> u64 {
-        self.loads = self.loads.saturating_add(1);
+        if self.loads.len() == self.loads.capacity() {
+            unimplemented!(self.rt)
+        }
+        self.loads.push_reserved(location);
         let word = self.words[location as usize];
         word - word % 256 + 128
     }
@@ -181,7 +186,7 @@ fn loud_words<'a, R: Abort>(rt: &'a R, alloc: Global) -> Result<LoudWords<'a, R>
         rt,
         words: Vec::from_slice(alloc, &WORDS)?,
         attached: true,
-        loads: 0,
+        loads: Vec::with_capacity(alloc, 100)?,
     })
 }
 
@@ -219,7 +224,7 @@ fn counts_down(
     Ok(
         stopped == Ok(stop)
             && report.steps == done
-            && words.loads == done
+            && words.loads.len() as u64 == done
             && are_heard(report.records.as_slice(), want),
     )
 }

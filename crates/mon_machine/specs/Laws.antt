@@ -23,6 +23,7 @@ use Rattle.mon_machine.specs.declared.mode.Mode.{Mode}
 use Rattle.mon_machine.specs.State.{State, goes, start}
 use Rattle.mon_machine.specs.Step.{step}
 use Rattle.mon_machine.specs.Run.{after_steps, steps_done, printed_by, outcome_of, Goes, is_line, is_heard, heard, records_of}
+use Rattle.mon_machine.specs.PlainRun.{state_at, events_at}
 use Rattle.mon_machine.specs.Serial.{wants_line, line_records, HasLineWants}
 
 -- a run goes on by one step; a thread that goes on before each of n steps does n of them; where it then does not go on,
@@ -66,7 +67,7 @@ pub record IsCall (p : Parts) (k : ℕ) (c : Code) (args : List Value) : Type 0 
 
 -- no operand, no local and no location is ever missing
 abbrev pub NeverStuck : Type 0
-NeverStuck = (p : Parts) (k : ℕ) (c : Code) (args : List Value) → IsCall p k c args → (n : ℕ) → ¬ ((after_steps p (start c k args) n).mode ≡ Mode.Stuck)
+NeverStuck = (p : Parts) (k : ℕ) (c : Code) (args : List Value) → IsCall p k c args → (n : ℕ) → ¬ ((state_at p k c args n).mode ≡ Mode.Stuck)
 
 -- a frame that has so many values more on its operand stack has the depths that its code records at an index
 pub record FitsDepths (p : Parts) (f : Frame) (index more : ℕ) : Type 0 where
@@ -85,7 +86,7 @@ pub record HasDepths (p : Parts) (s : State) : Type 0 where
 
 -- at each step of a call the depths are as they are recorded
 abbrev pub DepthsAsRecorded : Type 0
-DepthsAsRecorded = (p : Parts) (k : ℕ) (c : Code) (args : List Value) → IsCall p k c args → (n : ℕ) → HasDepths p (after_steps p (start c k args) n)
+DepthsAsRecorded = (p : Parts) (k : ℕ) (c : Code) (args : List Value) → IsCall p k c args → (n : ℕ) → HasDepths p (state_at p k c args n)
 
 -- a run has the limit for its outcome exactly where the thread still goes on after n steps, all of which it did
 pub record LimitIsBound (p : Parts) (s : State) (n : ℕ) : Type 0 where
@@ -117,7 +118,7 @@ pub record MarksLine (p : Parts) (h : Happening) : Type 0 where
   pub alone : is_line_kind h.kind ≡ true → h.event ≡ Event.Line
 
 abbrev pub LineMarks : Type 0
-LineMarks = (p : Parts) (k : ℕ) (c : Code) (args : List Value) → IsCall p k c args → (n : ℕ) → AllByRecursion (MarksLine p) (step p (after_steps p (start c k args) n)).events
+LineMarks = (p : Parts) (k : ℕ) (c : Code) (args : List Value) → IsCall p k c args → (n : ℕ) → AllByRecursion (MarksLine p) (events_at p k c args n)
 
 -- and each event stands where its kind says
 abbrev pub ProperEvents : Type 0

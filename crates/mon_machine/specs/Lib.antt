@@ -4,6 +4,8 @@ pub mod Moves
 pub mod Events
 pub mod Step
 pub mod Run
+pub mod PlainRun
 pub mod Serial
 pub mod Bare
 pub mod Laws
+pub mod LastLines

@@ -1,3 +1,4 @@
+ghost use Rattle.mon_machine.specs.LastLines.{LastLinesAreForEvents};
 ghost use Rattle.mon_machine.specs.Laws.{DepthsAsRecorded, GoesOnByOne, HeardByWants, LimitsAreBounds, LineMarks, NeverStuck, ProperEvents, RunsAddUp};
 
 /// A run goes on step by step, and a thread that does not go on stands still.
@@ -8,6 +9,12 @@ pub fn goes_on_by_one()
 /// A run of some steps and then of more is that of their sum, in its states and in what it prints.
 pub fn runs_add_up()
     ensures { RunsAddUp }
+{}
+
+/// The last line of a frame is read by events alone: without last lines a run leads, but for these, to the same states, and
+/// prints the same.
+pub fn last_lines_are_for_events()
+    ensures { LastLinesAreForEvents }
 {}
 
 /// A thread that calls a code of a checked program with the right number of arguments never misses an operand, a local

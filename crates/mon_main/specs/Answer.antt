@@ -121,3 +121,7 @@ HasProgram (Some file) = (m : Module) × ReadAs file (Parsed m) × IsSome (progr
 abbrev pub FailedRead : Option Replay → (List ℕ → Option (List ℕ)) → Option (List ℕ) → Type 0
 FailedRead None holds failed = ⊥
 FailedRead (Some r) holds failed = (failed ≡ Some r.file) ⊎ ((failed ≡ Some r.plan) × HasProgram (holds r.file))
+
+-- whatever FILE is read as and PLAN holds, as far as the contents are told
+abbrev pub WhereTold : List (List ℕ) → (List ℕ → Option (List ℕ)) → (Reading → List ℕ → Type 0) → Type 0
+WhereTold words holds Is = (reading : Reading) (plan : List ℕ) → Tells (replay_of words) holds reading plan → Is reading plan

@@ -1,8 +1,7 @@
 ghost use Rattle.std.specs.Prelude.{◌≡◌, ◌⊎◌, ℕ, List, None};
-ghost use Rattle.mon_parser.specs.Texts.{Reading};
 ghost use Rattle.mon_main.specs.Commands.{replay_of, texts};
 ghost use Rattle.mon_main.specs.Outside.{Rose, Writes, WritesPrefix};
-ghost use Rattle.mon_main.specs.Answer.{answer, usage_line, FailedRead, Gives, Reports, Tells};
+ghost use Rattle.mon_main.specs.Answer.{answer, usage_line, FailedRead, Gives, Reports, WhereTold};
 
 use crate::reply::reply_to;
 use crate::sink::{Sink, write_all};
@@ -22,15 +21,15 @@ pub fn host_serial<S: Store, K: Sink>(
     out: &mut K,
 ) -> Status
     // a status that has a text comes with the whole of it
-    ensures done { (reading : Reading) (plan : List ℕ) → Tells (replay_of (texts words.now)) (S.holds store.old) reading plan → result ≡ Status.Done →
-        Gives (answer (texts words.now) reading plan) Status.Done (K.written out.old) (K.written out.new) }
+    ensures done { WhereTold (texts words.now) (S.holds store.old) (λ reading plan. result ≡ Status.Done →
+        Gives (answer (texts words.now) reading plan) Status.Done (K.written out.old) (K.written out.new)) }
     // a report says `limit` exactly where the plan's bound came first
-    ensures limit { (reading : Reading) (plan : List ℕ) → Tells (replay_of (texts words.now)) (S.holds store.old) reading plan → result ≡ Status.Done →
-        Reports reading plan (K.written out.old) (K.written out.new) }
-    ensures not_built { (reading : Reading) (plan : List ℕ) → Tells (replay_of (texts words.now)) (S.holds store.old) reading plan → result ≡ Status.NotBuilt →
-        Gives (answer (texts words.now) reading plan) Status.NotBuilt (K.written out.old) (K.written out.new) }
-    ensures source { (reading : Reading) (plan : List ℕ) → Tells (replay_of (texts words.now)) (S.holds store.old) reading plan → result ≡ Status.Source →
-        Gives (answer (texts words.now) reading plan) Status.Source (K.written out.old) (K.written out.new) }
+    ensures limit { WhereTold (texts words.now) (S.holds store.old) (λ reading plan. result ≡ Status.Done →
+        Reports reading plan (K.written out.old) (K.written out.new)) }
+    ensures not_built { WhereTold (texts words.now) (S.holds store.old) (λ reading plan. result ≡ Status.NotBuilt →
+        Gives (answer (texts words.now) reading plan) Status.NotBuilt (K.written out.old) (K.written out.new)) }
+    ensures source { WhereTold (texts words.now) (S.holds store.old) (λ reading plan. result ≡ Status.Source →
+        Gives (answer (texts words.now) reading plan) Status.Source (K.written out.old) (K.written out.new)) }
     ensures usage { result ≡ Status.Usage →
         (replay_of (texts words.now) ≡ None) × Writes (K.written out.old) usage_line (K.written out.new) }
 
@@ -40,8 +39,8 @@ pub fn host_serial<S: Store, K: Sink>(
         × FailedRead (replay_of (texts words.now)) (S.holds store.old) (S.last_failed store.new)
         × (K.written out.new ≡ K.written out.old) }
     ensures write { result ≡ Status.WriteFault → Rose (K.faults out.old) (K.faults out.new) }
-    ensures prefix { (reading : Reading) (plan : List ℕ) → Tells (replay_of (texts words.now)) (S.holds store.old) reading plan → result ≡ Status.WriteFault →
-        WritesPrefix (K.written out.old) (answer (texts words.now) reading plan).text (K.written out.new) }
+    ensures prefix { WhereTold (texts words.now) (S.holds store.old) (λ reading plan. result ≡ Status.WriteFault →
+        WritesPrefix (K.written out.old) (answer (texts words.now) reading plan).text (K.written out.new)) }
     ensures memory { result ≡ Status.Memory → K.written out.new ≡ K.written out.old }
 
     // what is not at fault is as before
@@ -51,9 +50,8 @@ pub fn host_serial<S: Store, K: Sink>(
     ensures quiet_sink { ¬ (result ≡ Status.WriteFault) → K.faults out.new ≡ K.faults out.old }
 
     // where no fault came, the status is the due one, or there was no memory
-    ensures complete { (reading : Reading) (plan : List ℕ) → Tells (replay_of (texts words.now)) (S.holds store.old) reading plan →
-        ¬ Rose (S.faults store.old) (S.faults store.new) → ¬ Rose (K.faults out.old) (K.faults out.new) →
-        (result ≡ (answer (texts words.now) reading plan).status) ⊎ (result ≡ Status.Memory) }
+    ensures complete { WhereTold (texts words.now) (S.holds store.old) (λ reading plan. ¬ Rose (S.faults store.old) (S.faults store.new) → ¬ Rose (K.faults out.old) (K.faults out.new) →
+        (result ≡ (answer (texts words.now) reading plan).status) ⊎ (result ≡ Status.Memory)) }
 {
     match reply_to(alloc, words, store) {
         Ok(reply) => match write_all(out, reply.text()) {

@@ -1,4 +1,4 @@
-use Rattle.std.proofs.Common.{◌≡◌, ◌+◌, ◌<◌, ◌⊎◌, ℕ, ℤ, List, [], length, map, false, refl, ap, sym, ◌∙◌, subst, arith}
+use Rattle.std.proofs.Common.{◌≡◌, ◌+◌, ◌<◌, ◌⊎◌, ℕ, ℤ, List, [], length, map, true, false, refl, append-nil, ap, sym, ◌∙◌, subst, arith}
 use Rattle.std.specs.Prelude.{Ok, Some, slice_get, slice_index}
 use Rattle.std.proofs.lemmas.List.{length-map}
 use Rattle.mon_values.specs.declared.value.Value.{Value, Int}
@@ -11,6 +11,7 @@ use Rattle.mon_machine.proofs.Fitting.{checked_code}
 use Rattle.mon_words.specs.History.{base_in, offs}
 use Rattle.mon_words.specs.Standing.{board_of}
 use Rattle.mon_words.specs.Told.{Told}
+use Rattle.mon_words.specs.Tallies.{entered_once}
 use Rattle.mon_words.specs.declared.history.Board.{Board}
 use Rattle.mon_words.specs.declared.history.Mark.{Mark}
 use Rattle.mon_board.specs.Plain.{first_plain}
@@ -40,9 +41,9 @@ begin-requires c =
     omega (arith, code.parameters, count, long)
 
 -- the handle's board is the one that the run begins with
-module _ (p : Parts) (tool : ℕ) (v : PlainView) (b : PlainBoard) (h : PlainBoard) (begins : b.chair.me.0 ≡ first_plain 1 (board_of (words_of_run p tool))) (taken : h.chair.me.0 ≡ record b.chair.me.0 { current = 0 }) (same : v ≡ h.chair.me.0) where
-  board : v ≡ record (first_plain 1 (board_of (words_of_run p tool))) { current = 0 }
-  board = same ∙ (taken ∙ ap (λ (z : PlainView). record z { current = 0 }) begins)
+module _ (p : Parts) (tool : ℕ) (v : PlainView) (b : PlainBoard) (h : PlainBoard) (begins : b.chair.me.0 ≡ first_plain 1 (board_of (words_of_run p tool))) (taken : h.chair.me.0 ≡ record b.chair.me.0 { current = 0; attached = false }) (entered : v ≡ record h.chair.me.0 { attached = true; tally = entered_once h.chair.me.0.tally }) where
+  board : v ≡ (let first : PlainView = first_plain 1 (board_of (words_of_run p tool)) in record first { current = 0; attached = true; tally = entered_once first.tally })
+  board = entered ∙ ap (λ (z : PlainView). let w : PlainView = record z { attached = true; tally = entered_once z.tally } in w) (taken ∙ ap (λ (z : PlainView). let w : PlainView = record z { current = 0; attached = false } in w) begins)
 
   first : v.first ≡ board_of (words_of_run p tool)
   first = ap (λ (z : PlainView). z.first) board
@@ -55,7 +56,7 @@ advance-requires-clause-bases c =
     let p : Parts = c.args.program.now in
     let tool : ℕ = c.args.plan.now.tool in
     let small : (n : ℕ) → slice_index p.bases n < 256 = λ n. subst (λ (b : List ℕ). slice_index b n < 256) c.requires.bases (omega (arith, c.type_inv.bases n)) in
-    let is = first p tool c.try_enter.new.self.board.now.chair.me.0 c.in_ok-board.board c.handle-handle.result.board.now c.in_ok-board.ensures.view c.handle-handle.ensures.view (ap (λ (b : PlainBoard). b.chair.me.0) c.try_enter.ensures.value.0) in
+    let is = first p tool c.try_enter.new.self.board.now.chair.me.0 c.in_ok-board.board c.handle-handle.result.board.now c.in_ok-board.ensures.view c.handle-handle.ensures.view c.try_enter.ensures.view in
     ap (λ (b : Board). map base_in b.cells) is ∙ first_words-bases p tool c.first_board.ensures.checked c.requires.fits.tool small
 
 pub returns-in-Ok-advance : goal.returns-in-Ok-advance
@@ -77,11 +78,11 @@ returns-in-Ok-advance c =
     let t : ℕ = c.try_enter.new.self.thread in
     let v : PlainView = c.try_enter.new.self.board.now.chair.me.0 in
     let w : PlainView = c.advance.new.handle.board.now.chair.me.0 in
-    let same : v ≡ c.handle-handle.result.board.now.chair.me.0 = ap (λ (b : PlainBoard). b.chair.me.0) c.try_enter.ensures.value.0 in
+    let same = c.try_enter.ensures.view in
     let board : v.first ≡ board_of (words_of_run p plan.tool) = first p plan.tool v c.in_ok-board.board c.handle-handle.result.board.now c.in_ok-board.ensures.view c.handle-handle.ensures.view same in
     let before : v.seen ≡ [] = unseen p plan.tool v c.in_ok-board.board c.handle-handle.result.board.now c.in_ok-board.ensures.view c.handle-handle.ensures.view same in
-    let number : c.advance.new.handle.thread ≡ t = ap (λ (a : Told). a.number) c.advance.ensures.sees.rest in
-    let own : offs t w.seen ≡ [] = c.advance.ensures.sees.own refl ∙ ap (offs t) before in
+    let number : c.advance.new.handle.thread ≡ t = ap (λ (a : Told). a.number) c.advance.ensures.grows.rest in
+    let own : offs t w.seen ≡ [] = ap (λ n. offs n w.seen) (sym number) ∙ c.advance.ensures.grows.own ∙ append-nil (offs t v.seen) ∙ ap (offs t) before in
     let others : other_marks t w.seen ≡ [] = ap (λ n. other_marks n w.seen) (sym number) ∙ ap (λ (r : PlainRest). r.marks) c.advance.ensures.rest ∙ ap (other_marks t) before in
     let after : w.seen ≡ [] = no_marks t w.seen own others in
     let run : Ran p (board_of (words_of_run p plan.tool)) [] [] old new = subst (λ (z : Board × List Mark × List Mark). Ran p z.0 z.1 z.2 old new) (λ i. (board i, before i, after i)) c.in-Ok-advance.ensures.run in

@@ -1,5 +1,8 @@
-use Rattle.std.proofs.Common.{◌≡◌, ℕ, ◌+◌, ◌-◌, ◌/◌, ◌%◌, ◌<◌, ◌≤◌, ◌∙◌, List, [], length, map, get_or, Bool, true, false, cond, ltb, lit≤, refl, sym, ap, arith}
-use Rattle.std.proofs.lemmas.List.{get_or-map, length-map}
+use Rattle.std.proofs.Common.{◌≡◌, ℕ, ◌+◌, ◌-◌, ◌/◌, ◌%◌, ◌<◌, ◌≤◌, ◌∙◌, List, [], ◌∷◌, ◌++◌, length, map, get_or, Bool, true, false, cond, ltb, lit≤, refl, sym, ap, arith}
+use Rattle.std.proofs.lemmas.List.{get_or-map, length-map, map-append}
+use Rattle.mon_words.specs.Tallies.{no_tally}
+use Rattle.mon_words.specs.declared.tally.Load.{Load}
+use Rattle.mon_words.specs.declared.tally.Load.TheVariants.{Location as LoadOf}
 use Rattle.mon_words.specs.Words.{cell_of, enabled_in, Allowed}
 use Rattle.mon_words.specs.History.{cell_at, no_cell}
 use Rattle.mon_words.specs.Told.{Told, Loads}
@@ -22,16 +25,22 @@ at_most_three false false false = lit≤ tt
 loud : (c : Cell) (n m : ℕ) → m ≡ n - n % 256 + 128 → Allowed c (m % 256)
 loud c n m e = (3, lit≤ tt, at_most_three (ltb 0 (enabled_in c 0)) (ltb 0 (enabled_in c 1)) (ltb 0 (enabled_in c 2)), (parts n m e).3)
 
-abbrev told_of : List ℕ → Bool → Told
-told_of words attached = record { number = 0; first = record { global = 0; callbacks = []; cells = map cell_of words }; seen = []; own = []; attached = attached; count = 0; polls = 0; polled = 0; retirements = [] }
+abbrev told_of : List ℕ → Bool → List ℕ → Told
+told_of words attached loads = record { number = 0; first = record { global = 0; callbacks = []; cells = map cell_of words }; seen = []; own = []; attached = attached; count = 0; tally = record no_tally { loads = map (λ l. LoadOf l 0) loads } }
 
-loads : (words : List ℕ) (attached : Bool) (l n m : ℕ) → l < length words → n ≡ get_or words l n → m ≡ n - n % 256 + 128 → Loads (told_of words attached) l m (told_of words attached)
-loads words attached l n m within is made =
-    let cell : cell_at (told_of words attached).first l ≡ cell_of n = get_or-map cell_of words l n no_cell within ∙ ap cell_of (sym is) in
-    let same : cell_of m ≡ cell_at (told_of words attached).first l = same_cell n m made ∙ sym cell in
-    record { begins = record { more = []; is = refl }; quiet = refl; own = refl; rest = refl; shows = (same, loud (cell_at (told_of words attached).first l) n m made); base = ap (λ (c : Cell). c.base) same }
+loads : (words : List ℕ) (attached : Bool) (before after : List ℕ) (l n m : ℕ) → l < length words → n ≡ get_or words l n → m ≡ n - n % 256 + 128 → after ≡ before ++ l ∷ [] → Loads (told_of words attached before) l m (told_of words attached after)
+loads words attached before after l n m within is made more =
+    let cell : cell_at (told_of words attached before).first l ≡ cell_of n = get_or-map cell_of words l n no_cell within ∙ ap cell_of (sym is) in
+    let same : cell_of m ≡ cell_at (told_of words attached before).first l = same_cell n m made ∙ sym cell in
+    let counted : map (λ k. LoadOf k 0) after ≡ map (λ k. LoadOf k 0) before ++ LoadOf l 0 ∷ [] = ap (map (λ k. LoadOf k 0)) more ∙ map-append (λ k. LoadOf k 0) before (l ∷ []) in
+    record {
+      extends = record { begins = record { more = []; is = refl }; quiet = refl; own = refl };
+      rest = ap (λ (all : List Load). let t : Told = record (told_of words attached before) { tally = record no_tally { loads = all } } in t) counted;
+      shows = (same, loud (cell_at (told_of words attached before).first l) n m made);
+      base = ap (λ (c : Cell). c.base) same;
+    }
 
 pub returns-clause-told : goal.returns-clause-told
 returns-clause-told g c =
     let words : List ℕ = c.args.self.now.words.items in
-    loads words c.args.self.now.attached c.args.location c.index-word.result.now _ (omega (arith, length-map words cell_of, c.requires.within)) c.index-word.ensures (omega arith)
+    loads words c.args.self.now.attached c.args.self.now.loads.items _ c.args.location c.index-word.result.now _ (omega (arith, length-map words cell_of, c.requires.within)) c.index-word.ensures (omega arith) c.push_reserved.ensures.items
