@@ -197,7 +197,7 @@ chars_in_line [] h = refl
 chars_in_line (c ∷ cs) h =
     let both : (list_all is_in_line (encode_utf8 c) && list_all is_in_line (encode_utf8_all cs)) ≡ true = sym (list_all-append is_in_line (encode_utf8 c) (encode_utf8_all cs)) ∙ h in
     line_cons c cs (char_in_line c (and_first (list_all is_in_line (encode_utf8 c)) (list_all is_in_line (encode_utf8_all cs)) both))
-      (chars_in_line cs (and_second (list_all is_in_line (encode_utf8 c)) (list_all is_in_line (encode_utf8_all cs)) both))
+    (chars_in_line cs (and_second (list_all is_in_line (encode_utf8 c)) (list_all is_in_line (encode_utf8_all cs)) both))
 
 line_of_chars : (l : List ℕ) → IsUtf8 l → IsLine l → IsLine (chars l)
 line_of_chars l u a =
