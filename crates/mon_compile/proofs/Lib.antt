@@ -15,6 +15,7 @@ pub mod Arguments
 pub mod Located
 pub mod Programs
 pub mod Settled
+pub mod Sizes
 pub mod Nodes
 pub mod ExpressionHoles
 pub mod Emissions
@@ -31,3 +32,4 @@ pub mod Twice
 pub mod Constants
 pub mod Flags
 pub mod Listed
+pub mod Adding
