@@ -49,5 +49,5 @@ listing_stop (Err e) fault old new items i x is h at whole full =
     let P : CompileFault → Type 0 = λ z. ListsCodes (Err z) (functions_of items) in
     let here : drop i items ≡ x ∷ drop (i + 1) items = drop_more items i x h ∙ ap (λ (z : ModuleItem). z ∷ drop (i + 1) items) (sym at) in
     let front = old.bases.items in
-    let size = omega (arith, ap length whole, length-append front (bases_of (functions_of (drop i items))), length-append front (bases_of (functions_of (x ∷ []))), ap (λ (l : List ModuleItem). length (bases_of (functions_of l))) here, item_bases x (drop (i + 1) items)) in
+    let size : length (front ++ bases_of (functions_of (x ∷ []))) ≤ length (bases_of (functions_of items)) = omega (arith, ap length whole, length-append front (bases_of (functions_of (drop i items))), length-append front (bases_of (functions_of (x ∷ []))), ap (λ (l : List ModuleItem). length (bases_of (functions_of l))) here, item_bases x (drop (i + 1) items)) in
     subst P (sym is) (listed fault old new (functions_of (x ∷ [])) (functions_of items) size full)

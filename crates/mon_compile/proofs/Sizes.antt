@@ -6,7 +6,7 @@ use Rattle.mon_events.specs.declared.op.Op.{Op}
 use Rattle.mon_compile.specs.declared.assembly.Instruction.{Instruction}
 use Rattle.mon_compile.specs.declared.assembly.Argument.TheVariants.{Number, Destination}
 use Rattle.mon_compile.specs.declared.assembly.Label.TheVariants.{At}
-use Rattle.mon_compile.specs.Contexts.{Spot, put, none, above, bare}
+use Rattle.mon_compile.specs.Contexts.{FromAt, Spot, put, none, above, bare}
 use Rattle.mon_compile.specs.Open.{changed_from}
 use Rattle.mon_compile.proofs.Settled.{changed_length}
 use Rattle.mon_compile.specs.Expressions.{Coder, two_code, short_code, conditional_code}
@@ -60,3 +60,10 @@ augmented_size e s up first x y z c0 c1 c2 hu e1 e2 =
     let l1 : length c1 ≡ length c0 + 1 = ap length e1 ∙ length-append c0 (first ∷ []) in
     let f2 : c2 ≡ c1 ++ code = e2 ∙ ap (λ (k : Spot). c1 ++ e k (length c1)) hu ∙ ap (λ n. c1 ++ e (above 1 s) n) l1 in
     omega (arith, l1, ap length f2 ∙ length-append c1 code, length-append c0 (x ∷ (code ++ (y ∷ (z ∷ [])))), length-append code (y ∷ (z ∷ [])))
+
+pub bare_size : (part : FromAt) (x y : Instruction) (c0 c1 c2 : List Instruction) → c1 ≡ c0 ++ (x ∷ []) → c2 ≡ c1 ++ part (length c1) → length c2 ≤ length (c0 ++ (y ∷ part (length c0 + 1)))
+bare_size part x y c0 c1 c2 e1 e2 =
+    let l1 : length c1 ≡ length c0 + 1 = ap length e1 ∙ length-append c0 (x ∷ []) in
+    let code = part (length c0 + 1) in
+    let f2 : c2 ≡ c1 ++ code = e2 ∙ ap (λ n. c1 ++ part n) l1 in
+    omega (arith, l1, ap length f2 ∙ length-append c1 code, length-append c0 (y ∷ code))

@@ -6,7 +6,7 @@ use Rattle.mon_compile.specs.declared.assembly.Label.TheVariants.{At, EndOf, Han
 use Rattle.mon_compile.specs.declared.surroundings.Surroundings.TheOpen.{Surroundings-F}
 use Rattle.mon_compile.specs.declared.surroundings.Surroundings.TheFolds.{fold-roll-Surroundings}
 use Rattle.mon_compile.specs.declared.surroundings.Surroundings.TheViews as view
-use Rattle.mon_compile.specs.Contexts.{Context, Spot, While, For, Try, ExceptAs, put, none, bare, no_line}
+use Rattle.mon_compile.specs.Contexts.{Context, Spot, While, For, Try, ExceptAs, put, none, bare, at_line, no_line}
 use Rattle.mon_compile.specs.Emission.{Emission, emitted}
 use Rattle.mon_compile.specs.Expressions as scheme
 use Rattle.mon_compile.specs.Open.{open_step, open_context, inside, ending}
@@ -17,7 +17,7 @@ use Rattle.mon_compile.proofs.Labels.{body_carries, clauses_carry}
 use Rattle.mon_compile.proofs.StatementLabels.{clauses_carrying}
 use Rattle.mon_compile.proofs.Loops.{while_settles, for_settles, try_settles, except_as_settles, inside_length, part_inside, ending_length, clauses_ending}
 use Rattle.mon_compile.proofs.Nodes.{statement_within, handler_within}
-use Rattle.mon_compile.proofs.Sizes.{written_size, changed_size}
+use Rattle.mon_compile.proofs.Sizes.{written_size, changed_size, bare_size}
 use Rattle.mon_compile.proofs.StatementHoles.{while_written, for_written, if_written, if_else_written, handlers_written, except_written, except_as_written}
 use Rattle.mon_compile.proofs.emitter.Emitter.+statement.Goals as goal
 
@@ -284,8 +284,7 @@ for_loop-returns-in_err-for_body t c =
     let c6 = next.code ++ back in
     let c7 = slice_set c6 c.here-branch.result (put c.in_ok-higher.higher Op.PopJumpIfDone (Destination (At (length c6)))) in
     let written = for_written l c.args.line c.args.targets.now (scheme.expression_code l c.args.whole.now) body (open_context context) (λ x. inside_length body (λ g. body_carries g l c.args.body.now) (For x) _ _ (for_settles x context) 2) _ _ _ low _ _ e0.code _ _ _ _ next.code c6 c7 _ c.in_ok-spot.ensures (ap code_of c.in_ok-ending.ensures) c.here-start.ensures c.in_ok-up.ensures (ap code_of c.in_ok-put_plain.ensures) c.here-branch.ensures c.in_ok-higher.ensures (ap code_of c.in_ok-put_plain-2.ensures) stored.1 inner.1 refl refl refl in
-    let sizes = omega (arith, ap length (sym written), length-append c7 end, written_size c6 c7 _ _ refl, length-append next.code back) in
-    stop _ _ e0 _ e _ (part e.locals) _ c.from_residual-in_err-for_body.ensures.1 stored.0 sizes c.in_err-for_body.ensures
+    stop _ _ e0 _ e _ (part e.locals) _ c.from_residual-in_err-for_body.ensures.1 stored.0 (omega (arith, ap length (sym written), length-append c7 end, written_size c6 c7 _ _ refl, length-append next.code back)) c.in_err-for_body.ensures
 
 pub for_loop-returns-in_err-put_jump : goal.for_loop-returns-in_err-put_jump
 for_loop-returns-in_err-put_jump t c =
@@ -304,8 +303,7 @@ for_loop-returns-in_err-put_jump t c =
     let c6 = next.code ++ back in
     let c7 = slice_set c6 c.here-branch.result (put c.in_ok-higher.higher Op.PopJumpIfDone (Destination (At (length c6)))) in
     let written = for_written l c.args.line c.args.targets.now (scheme.expression_code l c.args.whole.now) body (open_context context) (λ x. inside_length body (λ g. body_carries g l c.args.body.now) (For x) _ _ (for_settles x context) 2) _ _ _ low _ _ e0.code _ _ _ _ next.code c6 c7 _ c.in_ok-spot.ensures (ap code_of c.in_ok-ending.ensures) c.here-start.ensures c.in_ok-up.ensures (ap code_of c.in_ok-put_plain.ensures) c.here-branch.ensures c.in_ok-higher.ensures (ap code_of c.in_ok-put_plain-2.ensures) stored.1 inner.1 refl refl refl in
-    let sizes = omega (arith, ap length (sym written), length-append c7 end, written_size c6 c7 _ _ refl, length-append next.code back) in
-    stop_one _ _ e0 _ next _ _ _ c.from_residual-in_err-put_jump.ensures.1 inner.0 sizes c.in_err-put_jump.ensures
+    stop_one _ _ e0 _ next _ _ _ c.from_residual-in_err-put_jump.ensures.1 inner.0 (omega (arith, ap length (sym written), length-append c7 end, written_size c6 c7 _ _ refl, length-append next.code back)) c.in_err-put_jump.ensures
 
 pub for_loop-returns-in_err-put_plain-3 : goal.for_loop-returns-in_err-put_plain-3
 for_loop-returns-in_err-put_plain-3 t c =
@@ -381,3 +379,15 @@ except_as-returns-in_err-except_as_body t c =
     let written = except_as_written c.args.line (scheme.expression_code l c.args.class.now) c.args.local (statements.block_code l c.args.body.now) c.args.end context _ _ _ e0.code _ _ _ _ _
     (c.in_ok-spot.ensures ∙ ap (λ (z : Spot). statements.in_clause z) c.in_ok-at_line.ensures) (ap code_of c.in_ok-ending.ensures) c.here-branch.ensures c.in_ok-up.ensures (ap code_of c.in_ok-put_plain.ensures) (ap code_of c.in_ok-put_number.ensures) inner.1 in
     stop _ _ e0 _ e _ (part e.locals) _ c.from_residual-in_err-except_as_body.ensures.1 same (omega (arith, written_size _ _ _ _ written)) c.in_err-except_as_body.ensures
+
+pub except_bare-returns-in_err-except_body : goal.except_bare-returns-in_err-except_body
+except_bare-returns-in_err-except_body t c =
+    let context = open_context c.args.context.now in
+    let e0 = c.args.self.now in
+    let e = c.put_plain.new.self in
+    let same = ap frame_of c.in_ok-put_plain.ensures in
+    let part = λ (k : scheme.Locals). statements.except_body (statements.block_code k c.args.body.now) c.args.end context in
+    let inner = step part (frame_of e0) e (emitted e (part e.locals)) same refl in
+    stop _ _ e0 _ e _ (part e.locals) _ c.from_residual-in_err-except_body.ensures.1 same
+    (bare_size (part e0.locals) _ (put (statements.in_clause (at_line c.args.line context)) Op.PopTop none) e0.code e.code (emitted e (part e.locals)).code (ap code_of c.in_ok-put_plain.ensures) inner.1)
+    c.in_err-except_body.ensures
