@@ -1,12 +1,13 @@
 -- What is left of two texts where one has ended.
-use Rattle.std.proofs.Common.{ap, sym, ◌∙◌, ◌&&◌, ◌==◌, Bool, ◌≡◌, ℕ, ◌<◌, ◌≤◌, List, [], ◌∷◌, ◌++◌, length, drop, refl, arith, length-drop, true, false}
-use Rattle.std.proofs.lemmas.Bool.Decides.{nat_tests}
+use Rattle.std.proofs.Common.{ap, sym, ◌∙◌, ◌&&◌, ◌==◌, Bool, ◌≡◌, ℕ, ◌<◌, ◌≤◌, List, [], ◌∷◌, length, drop, refl, arith, length-drop, true, false}
 use Rattle.std.proofs.Math.Dec.{eqb}
 use Rattle.std.specs.Char.{encode_utf8}
 use Rattle.std.specs.Cmp.Lexicographic.{pointwise}
 use Rattle.std.specs.Str.{IsUtf8, chars}
 use Rattle.std.proofs.lemmas.Str.{IsUtf8-past_char, chars_past_char}
 use Rattle.mon_code.specs.Programs.{is_text}
+use Rattle.std.proofs.Common.{◌++◌}
+use Rattle.std.proofs.lemmas.Bool.Decides.{nat_tests}
 
 none : (a b : List ℕ) → length a ≡ 0 → length b ≡ 0 → is_text a b ≡ true
 none [] [] e h = refl
