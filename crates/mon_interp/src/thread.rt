@@ -87,7 +87,6 @@ impl Model for Thread {
 
 impl Thread {
     ghost use Rattle.std.specs.Prelude.{◌≡◌, ◌+◌, ◌≤◌, length, map, true, false, not, IsTrue, OnOk, OnErr, IfOk, Ok, Err, []};
-    ghost use Rattle.std.specs.Str.{chars};
     ghost use Rattle.mon_words.specs.History.{base_in};
     ghost use Rattle.mon_words.specs.Told.{Sees};
     ghost use Rattle.mon_machine.specs.State.{goes};
@@ -126,7 +125,7 @@ impl Thread {
         entry: &str,
         args: &[Value],
     ) -> Result<Thread, EntryFault>
-        ensures { AnswersEntry result (entry_due program.now (chars entry.now) args.now) }
+        ensures { AnswersEntry result (entry_due program.now entry.now args.now) }
     {
         let Some(number) = program.code_named(entry) else {
             return Err(EntryFault::NoFunction);
