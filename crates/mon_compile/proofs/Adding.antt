@@ -23,9 +23,9 @@ added emission.TooManyLocations limit f old new room full =
 added emission.Memory limit f old new room full = tt
 
 -- a code that is too long for the room makes the codes too many
-pub added_stop : (r : Result (Unit {0}) CompileFault) (fault : EmitFault) (limit : ℕ) (f : Function) (old new : Listing) → IsErrAnd r (λ e. e ≡ fault_of_emission fault) → limit + length old.bases.items ≡ most_locations → AnswersCode (Err fault) limit f → AddsCodes r old new (f ∷ [])
-added_stop (Ok done) fault limit f old new is room full = absurd is
-added_stop (Err e) fault limit f old new is room full = let P : CompileFault → Type 0 = λ x. AddsCodes (Err x) old new (f ∷ []) in subst P (sym is) (added fault limit f old new room full)
+pub added_stop : (r : Result (Unit {0}) CompileFault) (fault : EmitFault) (limit : ℕ) (f : Function) (old new : Listing) → IsErrAnd r (λ e. e ≡ fault_of_emission fault) → AnswersCode (Err fault) limit f → limit + length old.bases.items ≡ most_locations → AddsCodes r old new (f ∷ [])
+added_stop (Ok done) fault limit f old new is full room = absurd is
+added_stop (Err e) fault limit f old new is full room = let P : CompileFault → Type 0 = λ x. AddsCodes (Err x) old new (f ∷ []) in subst P (sym is) (added fault limit f old new room full)
 
 item_bases : (x : ModuleItem) (xs : List ModuleItem) → length (bases_of (functions_of (x ∷ xs))) ≡ length (bases_of (functions_of (x ∷ []))) + length (bases_of (functions_of xs))
 item_bases (item.Function f) xs =
