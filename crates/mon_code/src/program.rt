@@ -2,6 +2,7 @@
 
 ghost use Rattle.std.specs.Prelude.{◌≡◌, ◌+◌, ◌<◌, ◌≤◌, length, slice_get, IfOk};
 ghost use Rattle.std.specs.Option.{option_copied};
+ghost use Rattle.std.specs.Str.{chars};
 ghost use Rattle.mon_code.specs.Programs as spec;
 
 use crate::own::{own_codes, own_constants, own_texts};
@@ -177,14 +178,14 @@ impl Program {
         None
     }
 
-    /// The number of the code with this name.
+    /// The number of the code whose name has the characters of a string.
     #[tactic(auto, using(crate::proofs::Codes::few_names))]
     pub fn code_named(&self, name: &str) -> Option<u16>
         ensures checked { IsChecked self.now }
-        ensures value { result ≡ spec.code_named self.now name.now }
+        ensures value { result ≡ spec.code_named self.now (chars name.now) }
     {
         for (k, text) in self.names.as_slice().iter().enumerate() {
-            if is_named(text, name) {
+            if is_spelled(text, name) {
                 return Some(k as u16);
             }
         }
@@ -216,4 +217,22 @@ pub fn is_named(text: &Text, name: &str) -> bool
         }
     }
     text.len() >= bytes.len()
+}
+
+// Whether a text has the characters of a string.
+#[tactic(auto, using(std::proofs::lemmas::Grind::common_steps, crate::proofs::Names::rest_utf8, crate::proofs::Names::text_next, crate::proofs::Names::text_end))]
+fn is_spelled(text: &Text, string: &str) -> bool
+    ensures { result ≡ spec.is_text text.now (chars string.now) }
+{
+    let mut left = text.chars();
+    for c in string.chars() {
+        let Some((first, others)) = left.split_first() else {
+            return false;
+        };
+        if *first != c {
+            return false;
+        }
+        left = others;
+    }
+    left.is_empty()
 }

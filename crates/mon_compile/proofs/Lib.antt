@@ -18,6 +18,7 @@ pub mod Contents
 pub mod InnerContexts
 pub mod InLoops
 pub mod Settled
+pub mod Sizes
 pub mod Nodes
 pub mod ExpressionHoles
 pub mod Emissions
@@ -34,3 +35,4 @@ pub mod Twice
 pub mod Constants
 pub mod Flags
 pub mod Listed
+pub mod Adding

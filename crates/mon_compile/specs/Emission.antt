@@ -1,12 +1,15 @@
 -- The code of a function while it is made, as an emitter is seen.
-use Rattle.std.specs.Prelude.{List, [], ◌∷◌, ◌++◌, length}
+use Rattle.std.specs.Prelude.{◌≡◌, ℕ, ◌<◌, List, [], ◌∷◌, ◌++◌, length, Result, Ok, Err}
 use Rattle.mon_compile.specs.declared.assembly.Instruction.{Instruction}
+use Rattle.mon_compile.specs.declared.emitter.EmitFault.{EmitFault}
+use Rattle.mon_compile.specs.declared.emitter.EmitFault.TheVariants.{TooManyLocations, Memory}
 use Rattle.mon_compile.specs.Contexts.{FromAt}
 use Rattle.mon_compile.specs.Expressions.{Locals}
 
--- a function's locals, and its code so far
+-- a function's locals, how many instructions it may have, and its code so far
 pub record Emission : Type 0 where
   pub locals : Locals
+  pub limit : ℕ
   pub code : List Instruction
 
 -- with more code, which begins at the next index
@@ -16,3 +19,9 @@ emitted e more = record e { code = e.code ++ more (length e.code) }
 -- one instruction is the same at each index
 abbrev pub one : Instruction → FromAt
 one i at = i ∷ []
+
+-- the code that is added, or that with it the code would pass the limit; memory may be wanting beside anything
+abbrev pub Emits : Result (Unit {0}) EmitFault → Emission → Emission → FromAt → Type 0
+Emits (Ok done) old new more = new ≡ emitted old more
+Emits (Err TooManyLocations) old new more = old.limit < length (emitted old more).code
+Emits (Err Memory) old new more = Unit {0}

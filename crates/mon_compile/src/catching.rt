@@ -1,14 +1,14 @@
 //! The code of `try` and its clauses.
 
-ghost use Rattle.std.specs.Prelude.{◌≡◌, map, IfOk, OnOk};
+ghost use Rattle.std.specs.Prelude.{◌≡◌, map, IfOk};
 ghost use Rattle.mon_compile.specs.Contexts as spec;
-ghost use Rattle.mon_compile.specs.Emission.{emitted};
+ghost use Rattle.mon_compile.specs.Emission.{Emits};
 ghost use Rattle.mon_compile.specs.Expressions as scheme;
 ghost use Rattle.mon_compile.specs.Open.{open_context, inside, ending};
 ghost use Rattle.mon_compile.specs.Statements as statements;
 
 use crate::assembly::{Label, Spot};
-use crate::emitter::Emitter;
+use crate::emitter::{EmitFault, Emitter};
 use crate::surroundings::Surroundings;
 use mon_events::Op;
 use mon_trees::tree::{Expression, Handler, Statement};
@@ -33,12 +33,12 @@ impl Emitter<'_> {
         body: &[Statement],
         clauses: &[Handler],
         last: &[Statement],
-    ) -> Result<(), AllocError>
-        ensures { OnOk result (self.new ≡ emitted self.old (statements.try_code line (statements.block_code self.old.locals body.now) (map (statements.handler_code self.old.locals) clauses.now) (map (statements.statement_code self.old.locals) last.now) (open_context context.now))) }
+    ) -> Result<(), EmitFault>
+        ensures { Emits result self.old self.new (statements.try_code line (statements.block_code self.old.locals body.now) (map (statements.handler_code self.old.locals) clauses.now) (map (statements.statement_code self.old.locals) last.now) (open_context context.now)) }
     {
         if !last.is_empty() {
             // Never reached: a `finally` is a fault, and faults are tried before code is made.
-            return Err(AllocError);
+            return Err(EmitFault::Memory);
         }
         self.put_plain(context.at_line(line)?, Op::Nop)?;
         self.handlers(context, body, clauses)
@@ -51,8 +51,8 @@ impl Emitter<'_> {
         context: &Surroundings,
         body: &[Statement],
         clauses: &[Handler],
-    ) -> Result<(), AllocError>
-        ensures { OnOk result (self.new ≡ emitted self.old (statements.handlers_code (statements.block_code self.old.locals body.now) (map (statements.handler_code self.old.locals) clauses.now) (open_context context.now))) }
+    ) -> Result<(), EmitFault>
+        ensures { Emits result self.old self.new (statements.handlers_code (statements.block_code self.old.locals body.now) (map (statements.handler_code self.old.locals) clauses.now) (open_context context.now)) }
     {
         self.try_body(context, body)?;
         let jump = self.here();
@@ -67,24 +67,26 @@ impl Emitter<'_> {
 
     // The body of a `try`, whose handler stands one instruction behind the body.
     #[cycle(statement)]
-    fn try_body(&mut self, context: &Surroundings, body: &[Statement]) -> Result<(), AllocError>
-        ensures { OnOk result (self.new ≡ emitted self.old (inside spec.Try 1 (statements.block_code self.old.locals body.now) (open_context context.now))) }
+    fn try_body(&mut self, context: &Surroundings, body: &[Statement]) -> Result<(), EmitFault>
+        ensures { Emits result self.old self.new (inside spec.Try 1 (statements.block_code self.old.locals body.now) (open_context context.now)) }
     {
         let from = self.here();
         let handler = Label::HandlerOf(context.depth()?);
         self.block(&Surroundings::Try(&*context), body)?;
-        self.settle_behind(from, handler, 1)
+        self.settle_behind(from, handler, 1);
+        Ok(())
     }
 
     // The clauses of a `try`, which ends behind them.
     #[cycle(statement)]
-    fn clauses(&mut self, context: &Surroundings, clauses: &[Handler]) -> Result<(), AllocError>
-        ensures { OnOk result (self.new ≡ emitted self.old (ending (statements.clauses_code (map (statements.handler_code self.old.locals) clauses.now)) (open_context context.now))) }
+    fn clauses(&mut self, context: &Surroundings, clauses: &[Handler]) -> Result<(), EmitFault>
+        ensures { Emits result self.old self.new (ending (statements.clauses_code (map (statements.handler_code self.old.locals) clauses.now)) (open_context context.now)) }
     {
         let from = self.here();
         let end = Label::EndOf(context.depth()?);
         self.each_clause(context, end, clauses)?;
-        self.settle_behind(from, end, 0)
+        self.settle_behind(from, end, 0);
+        Ok(())
     }
 
     // Each clause; RERAISE (-) unless the last clause is bare.
@@ -94,8 +96,8 @@ impl Emitter<'_> {
         context: &Surroundings,
         end: Label,
         clauses: &[Handler],
-    ) -> Result<(), AllocError>
-        ensures { OnOk result (self.new ≡ emitted self.old (statements.clauses_code (map (statements.handler_code self.old.locals) clauses.now) end (open_context context.now))) }
+    ) -> Result<(), EmitFault>
+        ensures { Emits result self.old self.new (statements.clauses_code (map (statements.handler_code self.old.locals) clauses.now) end (open_context context.now)) }
     {
         for clause in clauses {
             self.clause(context, end, clause)?;
@@ -114,8 +116,8 @@ impl Emitter<'_> {
         context: &Surroundings,
         end: Label,
         clause: &Handler,
-    ) -> Result<(), AllocError>
-        ensures { OnOk result (self.new ≡ emitted self.old ((statements.handler_code self.old.locals clause.now).code end (open_context context.now))) }
+    ) -> Result<(), EmitFault>
+        ensures { Emits result self.old self.new ((statements.handler_code self.old.locals clause.now).code end (open_context context.now)) }
     {
         let body = clause.body.as_slice();
         match (&clause.class, &clause.name) {
@@ -136,12 +138,13 @@ impl Emitter<'_> {
         line: u32,
         end: Label,
         body: &[Statement],
-    ) -> Result<(), AllocError>
-        ensures { OnOk result (self.new ≡ emitted self.old (statements.bare_code line (statements.block_code self.old.locals body.now) end (open_context context.now))) }
+    ) -> Result<(), EmitFault>
+        ensures { Emits result self.old self.new (statements.bare_code line (statements.block_code self.old.locals body.now) end (open_context context.now)) }
     {
         let spot = context.at_line(line)?.in_clause()?;
         self.put_plain(spot, Op::PopTop)?;
-        self.except_body(context, end, body)
+        self.except_body(context, end, body)?;
+        Ok(())
     }
 
     // E(class); CHECK_EXC_MATCH; POP_JUMP_IF_FALSE z; POP_TOP; the body; z:
@@ -153,8 +156,8 @@ impl Emitter<'_> {
         end: Label,
         class: &Expression,
         body: &[Statement],
-    ) -> Result<(), AllocError>
-        ensures { OnOk result (self.new ≡ emitted self.old (statements.except_code line (scheme.expression_code self.old.locals class.now) (statements.block_code self.old.locals body.now) end (open_context context.now))) }
+    ) -> Result<(), EmitFault>
+        ensures { Emits result self.old self.new (statements.except_code line (scheme.expression_code self.old.locals class.now) (statements.block_code self.old.locals body.now) end (open_context context.now)) }
     {
         let spot = context.at_line(line)?.in_clause()?;
         self.ending(spot, class, Op::CheckExcMatch, 0)?;
@@ -174,8 +177,8 @@ impl Emitter<'_> {
         context: &Surroundings,
         end: Label,
         body: &[Statement],
-    ) -> Result<(), AllocError>
-        ensures { OnOk result (self.new ≡ emitted self.old (statements.except_body (statements.block_code self.old.locals body.now) end (open_context context.now))) }
+    ) -> Result<(), EmitFault>
+        ensures { Emits result self.old self.new (statements.except_body (statements.block_code self.old.locals body.now) end (open_context context.now)) }
     {
         self.block(&Surroundings::Except(&*context), body)?;
         let low = context.no_line()?;
@@ -194,8 +197,8 @@ impl Emitter<'_> {
         class: &Expression,
         local: usize,
         body: &[Statement],
-    ) -> Result<(), AllocError>
-        ensures { OnOk result (self.new ≡ emitted self.old (statements.except_as_code line (scheme.expression_code self.old.locals class.now) local (statements.block_code self.old.locals body.now) end (open_context context.now))) }
+    ) -> Result<(), EmitFault>
+        ensures { Emits result self.old self.new (statements.except_as_code line (scheme.expression_code self.old.locals class.now) local (statements.block_code self.old.locals body.now) end (open_context context.now)) }
     {
         let spot = context.at_line(line)?.in_clause()?;
         self.ending(spot, class, Op::CheckExcMatch, 0)?;
@@ -217,8 +220,8 @@ impl Emitter<'_> {
         end: Label,
         local: usize,
         body: &[Statement],
-    ) -> Result<(), AllocError>
-        ensures { OnOk result (self.new ≡ emitted self.old (statements.except_as_body local (statements.block_code self.old.locals body.now) end (open_context context.now))) }
+    ) -> Result<(), EmitFault>
+        ensures { Emits result self.old self.new (statements.except_as_body local (statements.block_code self.old.locals body.now) end (open_context context.now)) }
     {
         self.named_body(context, local, body)?;
         let low = context.no_line()?;
@@ -228,7 +231,8 @@ impl Emitter<'_> {
         self.put_plain(low.above(1)?, Op::PushExcInfo)?;
         let spot = low.in_clause()?;
         self.put_number(spot, Op::DeleteFast, local)?;
-        self.put_plain(spot, Op::Reraise)
+        self.put_plain(spot, Op::Reraise)?;
+        Ok(())
     }
 
     // The body of a clause with a name, whose handler stands three instructions behind the body.
@@ -238,12 +242,13 @@ impl Emitter<'_> {
         context: &Surroundings,
         local: usize,
         body: &[Statement],
-    ) -> Result<(), AllocError>
-        ensures { OnOk result (self.new ≡ emitted self.old (inside (spec.ExceptAs local) 3 (statements.block_code self.old.locals body.now) (open_context context.now))) }
+    ) -> Result<(), EmitFault>
+        ensures { Emits result self.old self.new (inside (spec.ExceptAs local) 3 (statements.block_code self.old.locals body.now) (open_context context.now)) }
     {
         let from = self.here();
         let handler = Label::HandlerOf(context.depth()?);
         self.block(&Surroundings::ExceptAs(local, &*context), body)?;
-        self.settle_behind(from, handler, 3)
+        self.settle_behind(from, handler, 3);
+        Ok(())
     }
 }

@@ -1,18 +1,17 @@
 //! The code of statements with blocks.
 
-ghost use Rattle.std.specs.Prelude.{◌≡◌, map, OnOk};
+ghost use Rattle.std.specs.Prelude.{◌≡◌, map};
 ghost use Rattle.mon_compile.specs.Contexts as spec;
-ghost use Rattle.mon_compile.specs.Emission.{emitted};
+ghost use Rattle.mon_compile.specs.Emission.{Emits};
 ghost use Rattle.mon_compile.specs.Expressions as scheme;
 ghost use Rattle.mon_compile.specs.Open.{open_context, inside};
 ghost use Rattle.mon_compile.specs.Statements as statements;
 
 use crate::assembly::Label;
-use crate::emitter::Emitter;
+use crate::emitter::{EmitFault, Emitter};
 use crate::surroundings::Surroundings;
 use mon_events::Op;
 use mon_trees::tree::{Expression, Statement, Targets};
-use std::alloc::AllocError;
 
 impl Emitter<'_> {
     /// The code of a statement.
@@ -21,8 +20,8 @@ impl Emitter<'_> {
         &mut self,
         context: &Surroundings,
         statement: &Statement,
-    ) -> Result<(), AllocError>
-        ensures { OnOk result (self.new ≡ emitted self.old (statements.statement_code self.old.locals statement.now (open_context context.now))) }
+    ) -> Result<(), EmitFault>
+        ensures { Emits result self.old self.new (statements.statement_code self.old.locals statement.now (open_context context.now)) }
     {
         match statement {
             Statement::Simple(line, simple) => self.simple(context, *line, simple),
@@ -44,8 +43,8 @@ impl Emitter<'_> {
 
     /// The code of statements one after another.
     #[cycle(statement)]
-    pub fn block(&mut self, context: &Surroundings, body: &[Statement]) -> Result<(), AllocError>
-        ensures { OnOk result (self.new ≡ emitted self.old (statements.block_code self.old.locals body.now (open_context context.now))) }
+    pub fn block(&mut self, context: &Surroundings, body: &[Statement]) -> Result<(), EmitFault>
+        ensures { Emits result self.old self.new (statements.block_code self.old.locals body.now (open_context context.now)) }
     {
         for statement in body {
             self.statement(context, statement)?;
@@ -61,8 +60,8 @@ impl Emitter<'_> {
         line: u32,
         test: &Expression,
         body: &[Statement],
-    ) -> Result<(), AllocError>
-        ensures { OnOk result (self.new ≡ emitted self.old (statements.while_code line (scheme.expression_code self.old.locals test.now) (statements.block_code self.old.locals body.now) (open_context context.now))) }
+    ) -> Result<(), EmitFault>
+        ensures { Emits result self.old self.new (statements.while_code line (scheme.expression_code self.old.locals test.now) (statements.block_code self.old.locals body.now) (open_context context.now)) }
     {
         let start = self.here();
         let spot = context.at_line(line)?;
@@ -83,13 +82,14 @@ impl Emitter<'_> {
         context: &Surroundings,
         start: usize,
         body: &[Statement],
-    ) -> Result<(), AllocError>
-        ensures { OnOk result (self.new ≡ emitted self.old (inside (spec.While start) 1 (statements.block_code self.old.locals body.now) (open_context context.now))) }
+    ) -> Result<(), EmitFault>
+        ensures { Emits result self.old self.new (inside (spec.While start) 1 (statements.block_code self.old.locals body.now) (open_context context.now)) }
     {
         let from = self.here();
         let end = Label::EndOf(context.depth()?);
         self.block(&Surroundings::While(start, &*context), body)?;
-        self.settle_behind(from, end, 1)
+        self.settle_behind(from, end, 1);
+        Ok(())
     }
 
     // E(whole); GET_ITER; x: FOR_ITER; POP_JUMP_IF_DONE z; the store; the body; JUMP_BACKWARD x (-); z: END_FOR (-); y:
@@ -101,8 +101,8 @@ impl Emitter<'_> {
         targets: &Targets,
         whole: &Expression,
         body: &[Statement],
-    ) -> Result<(), AllocError>
-        ensures { OnOk result (self.new ≡ emitted self.old (statements.for_code self.old.locals line targets.now (scheme.expression_code self.old.locals whole.now) (statements.block_code self.old.locals body.now) (open_context context.now))) }
+    ) -> Result<(), EmitFault>
+        ensures { Emits result self.old self.new (statements.for_code self.old.locals line targets.now (scheme.expression_code self.old.locals whole.now) (statements.block_code self.old.locals body.now) (open_context context.now)) }
     {
         let spot = context.at_line(line)?;
         self.ending(spot, whole, Op::GetIter, 0)?;
@@ -117,7 +117,8 @@ impl Emitter<'_> {
         let low = up.bare();
         self.put_jump(low, Op::JumpBackward, Label::At(start))?;
         self.jump_here(branch, higher, Op::PopJumpIfDone);
-        self.put_plain(low, Op::EndFor)
+        self.put_plain(low, Op::EndFor)?;
+        Ok(())
     }
 
     // The body of a `for` whose FOR_ITER has an index; it ends two instructions behind the body.
@@ -127,13 +128,14 @@ impl Emitter<'_> {
         context: &Surroundings,
         start: usize,
         body: &[Statement],
-    ) -> Result<(), AllocError>
-        ensures { OnOk result (self.new ≡ emitted self.old (inside (spec.For start) 2 (statements.block_code self.old.locals body.now) (open_context context.now))) }
+    ) -> Result<(), EmitFault>
+        ensures { Emits result self.old self.new (inside (spec.For start) 2 (statements.block_code self.old.locals body.now) (open_context context.now)) }
     {
         let from = self.here();
         let end = Label::EndOf(context.depth()?);
         self.block(&Surroundings::For(start, &*context), body)?;
-        self.settle_behind(from, end, 2)
+        self.settle_behind(from, end, 2);
+        Ok(())
     }
 
     // No statement behind `else` says that there is no `else`.
@@ -145,8 +147,8 @@ impl Emitter<'_> {
         test: &Expression,
         body: &[Statement],
         other: &[Statement],
-    ) -> Result<(), AllocError>
-        ensures { OnOk result (self.new ≡ emitted self.old (statements.branch_code line (scheme.expression_code self.old.locals test.now) (statements.block_code self.old.locals body.now) (map (statements.statement_code self.old.locals) other.now) (open_context context.now))) }
+    ) -> Result<(), EmitFault>
+        ensures { Emits result self.old self.new (statements.branch_code line (scheme.expression_code self.old.locals test.now) (statements.block_code self.old.locals body.now) (map (statements.statement_code self.old.locals) other.now) (open_context context.now)) }
     {
         if other.is_empty() {
             self.if_alone(context, line, test, body)
@@ -163,8 +165,8 @@ impl Emitter<'_> {
         line: u32,
         test: &Expression,
         body: &[Statement],
-    ) -> Result<(), AllocError>
-        ensures { OnOk result (self.new ≡ emitted self.old (statements.if_code line (scheme.expression_code self.old.locals test.now) (statements.block_code self.old.locals body.now) (open_context context.now))) }
+    ) -> Result<(), EmitFault>
+        ensures { Emits result self.old self.new (statements.if_code line (scheme.expression_code self.old.locals test.now) (statements.block_code self.old.locals body.now) (open_context context.now)) }
     {
         let spot = context.at_line(line)?;
         self.expression(spot, test)?;
@@ -185,8 +187,8 @@ impl Emitter<'_> {
         test: &Expression,
         body: &[Statement],
         other: &[Statement],
-    ) -> Result<(), AllocError>
-        ensures { OnOk result (self.new ≡ emitted self.old (statements.if_else_code line (scheme.expression_code self.old.locals test.now) (statements.block_code self.old.locals body.now) (statements.block_code self.old.locals other.now) (open_context context.now))) }
+    ) -> Result<(), EmitFault>
+        ensures { Emits result self.old self.new (statements.if_else_code line (scheme.expression_code self.old.locals test.now) (statements.block_code self.old.locals body.now) (statements.block_code self.old.locals other.now) (open_context context.now)) }
     {
         let spot = context.at_line(line)?;
         self.expression(spot, test)?;

@@ -2,18 +2,19 @@
 
 ghost use Rattle.std.specs.Prelude.{◌≡◌, ◌+◌, ◌≤◌, ◌<◌, [], length, slice_set, OnOk};
 ghost use Rattle.mon_values.specs.declared.value.Value as values;
+ghost use Rattle.mon_compile.specs.declared.emitter.EmitFault.TheVariants.{Memory};
 ghost use Rattle.mon_compile.specs.declared.assembly.Argument.TheVariants.{Number, Destination};
 ghost use Rattle.mon_compile.specs.declared.assembly.Label.TheVariants.{At};
 ghost use Rattle.mon_compile.specs.Contexts as spec;
-ghost use Rattle.mon_compile.specs.Emission.{emitted, one};
+ghost use Rattle.mon_compile.specs.Emission.{Emits, emitted, one};
 ghost use Rattle.mon_compile.specs.Expressions as scheme;
+ghost use Rattle.mon_compile.specs.Faults.{most_locations};
 ghost use Rattle.mon_compile.specs.Open as opened;
 
 use crate::assembly::{Argument, Instruction, Label, Spot};
 use crate::codes::text;
 use crate::scope::{copy, is_local, number_of_local};
 use crate::settle::settle;
-use crate::surroundings::more;
 use mon_events::Op;
 use mon_shared::SharedItems;
 use mon_trees::Text;
@@ -21,14 +22,36 @@ use mon_values::value::Value;
 use sqlite_items::Items;
 use std::alloc::{AllocError, Global};
 use std::marker::Model;
+use thiserror::Error;
 
-/// The code of a function while it is made, with the names of the function's locals.
+/// Why a part of a function has no code.
+#[derive(Clone, Copy, Debug, Drop, PartialEq, Eq, Error)]
+pub enum EmitFault {
+    /// With it the code would be longer than it may be.
+    #[error("TooManyLocations")]
+    TooManyLocations,
+    /// Memory ran out.
+    #[error("Memory")]
+    Memory,
+}
+
+impl From<AllocError> for EmitFault {
+    ghost from_gives = { λ _ e. e ≡ Memory };
+
+    fn from(_: AllocError) -> EmitFault {
+        EmitFault::Memory
+    }
+}
+
+/// The code of a function while it is made, with the names of the function's locals, and how many instructions it may
+/// have.
 ///
-/// The methods that add code add all of it, unless memory is short; the code is then of no use.
+/// The methods that add code add all of it, or answer why not; the code is then of no use.
 #[derive(Debug, Drop)]
 pub struct Emitter<'a> {
     alloc: Global,
     locals: &'a [Text],
+    limit: usize,
     code: Vec<Instruction>,
 }
 
@@ -36,31 +59,37 @@ impl<'a> Model for Emitter<'a> {
     ghost use Rattle.mon_compile.specs.Emission.{Emission};
     ghost use Rattle.mon_compile.specs.declared.assembly.Instruction.{Instruction as Made};
     ghost use Rattle.mon_compile.specs.contracts.assembly.Instruction as instruction;
-    ghost use Rattle.std.specs.Prelude.{ℕ, List, refl};
+    ghost use Rattle.mon_compile.specs.Faults.{most_locations};
+    ghost use Rattle.std.specs.Prelude.{ℕ, ◌≤◌, List, length, refl};
     ghost use Rattle.std.specs.Coded.{code_by, coded×, coded_list, coded_ℕ};
 
     ghost Value = { Emission };
 
-    ghost coded = { code_by (List (List ℕ) × List Made) (coded× (coded_list (coded_list coded_ℕ)) (coded_list instruction.the_row.coded)) (λ e. (e.locals, e.code)) (λ p. record { locals = p.0; code = p.1 }) (λ _. refl) };
+    ghost coded = { code_by (List (List ℕ) × (ℕ × List Made)) (coded× (coded_list (coded_list coded_ℕ)) (coded× coded_ℕ (coded_list instruction.the_row.coded))) (λ e. (e.locals, (e.limit, e.code))) (λ p. record { locals = p.0; limit = p.1.0; code = p.1.1 }) (λ _. refl) };
 
-    ghost view = { λ e. record { locals = e.locals.now; code = e.code.items } };
+    ghost view = { λ e. record { locals = e.locals.now; limit = e.limit; code = e.code.items } };
+
+    ghost invariant = { λ e. (length e.code.items ≤ e.limit) × (e.limit ≤ most_locations) };
 }
 
 impl<'a> Emitter<'a> {
-    /// No code yet.
-    pub fn new(alloc: Global, locals: &'a [Text]) -> Self
-        ensures { result ≡ record { locals = locals.now; code = [] } }
+    /// No code yet, and at most so many instructions.
+    pub fn new(alloc: Global, locals: &'a [Text], limit: usize) -> Self
+        requires { limit ≤ most_locations }
+        ensures { result ≡ record { locals = locals.now; limit = limit; code = [] } }
     {
         Emitter {
             alloc,
             locals,
+            limit,
             code: Vec::new(alloc),
         }
     }
 
     /// The code.
     pub fn into_code(self) -> Vec<Instruction>
-        ensures { result.items ≡ self.entry.code }
+        ensures code { result.items ≡ self.entry.code }
+        ensures few { length result.items ≤ self.entry.limit }
     {
         self.code
     }
@@ -82,60 +111,71 @@ impl Emitter<'_> {
     }
 
     /// One more instruction.
-    pub fn put(&mut self, spot: Spot, op: Op, argument: Argument) -> Result<(), AllocError>
-        ensures { OnOk result (self.new ≡ emitted self.old (one (spec.put spot op argument))) }
+    pub fn put(&mut self, spot: Spot, op: Op, argument: Argument) -> Result<(), EmitFault>
+        ensures { Emits result self.old self.new (one (spec.put spot op argument)) }
     {
-        self.code.push(Instruction { op, argument, spot })?;
+        if self.code.len() >= self.limit {
+            return Err(EmitFault::TooManyLocations);
+        }
+        self.push(Instruction { op, argument, spot })?;
+        Ok(())
+    }
+
+    fn push(&mut self, instruction: Instruction) -> Result<(), AllocError>
+        requires { length self.old.code < self.old.limit }
+        ensures { OnOk result (self.new ≡ emitted self.old (one instruction)) }
+    {
+        self.code.push(instruction)?;
         Ok(())
     }
 
     /// One more instruction without an argument.
-    pub fn put_plain(&mut self, spot: Spot, op: Op) -> Result<(), AllocError>
-        ensures { OnOk result (self.new ≡ emitted self.old (one (spec.put spot op spec.none))) }
+    pub fn put_plain(&mut self, spot: Spot, op: Op) -> Result<(), EmitFault>
+        ensures { Emits result self.old self.new (one (spec.put spot op spec.none)) }
     {
         self.put(spot, op, Argument::Number(0))
     }
 
     /// One more instruction with a number.
-    pub fn put_number(&mut self, spot: Spot, op: Op, number: usize) -> Result<(), AllocError>
-        ensures { OnOk result (self.new ≡ emitted self.old (one (spec.put spot op (Number number)))) }
+    pub fn put_number(&mut self, spot: Spot, op: Op, number: usize) -> Result<(), EmitFault>
+        ensures { Emits result self.old self.new (one (spec.put spot op (Number number))) }
     {
         self.put(spot, op, Argument::Number(number))
     }
 
     /// One more jump.
-    pub fn put_jump(&mut self, spot: Spot, op: Op, to: Label) -> Result<(), AllocError>
-        ensures { OnOk result (self.new ≡ emitted self.old (one (spec.put spot op (Destination to)))) }
+    pub fn put_jump(&mut self, spot: Spot, op: Op, to: Label) -> Result<(), EmitFault>
+        ensures { Emits result self.old self.new (one (spec.put spot op (Destination to))) }
     {
         self.put(spot, op, Argument::Destination(to))
     }
 
     /// `LOAD_CONST`.
-    pub fn put_constant(&mut self, spot: Spot, value: Value) -> Result<(), AllocError>
-        ensures { OnOk result (self.new ≡ emitted self.old (scheme.constant_code value spot)) }
+    pub fn put_constant(&mut self, spot: Spot, value: Value) -> Result<(), EmitFault>
+        ensures { Emits result self.old self.new (scheme.constant_code value spot) }
     {
         self.put(spot, Op::LoadConst, Argument::Constant(value))
     }
 
     /// `LOAD_CONST` with a text.
-    pub fn put_text(&mut self, spot: Spot, characters: &Text) -> Result<(), AllocError>
-        ensures { OnOk result (self.new ≡ emitted self.old (scheme.constant_code (values.Text characters.now) spot)) }
+    pub fn put_text(&mut self, spot: Spot, characters: &Text) -> Result<(), EmitFault>
+        ensures { Emits result self.old self.new (scheme.constant_code (values.Text characters.now) spot) }
     {
         let value = Value::Text(text(self.alloc, characters)?);
         self.put_constant(spot, value)
     }
 
     /// `LOAD_CONST` with the empty tuple.
-    pub fn put_empty(&mut self, spot: Spot) -> Result<(), AllocError>
-        ensures { OnOk result (self.new ≡ emitted self.old (scheme.constant_code (values.Tuple []) spot)) }
+    pub fn put_empty(&mut self, spot: Spot) -> Result<(), EmitFault>
+        ensures { Emits result self.old self.new (scheme.constant_code (values.Tuple []) spot) }
     {
         let value = Value::Tuple(SharedItems::new());
         self.put_constant(spot, value)
     }
 
     /// `LOAD_FAST` for a local, and `LOAD_GLOBAL` for another name.
-    pub fn put_name(&mut self, spot: Spot, name: &Text) -> Result<(), AllocError>
-        ensures { OnOk result (self.new ≡ emitted self.old (scheme.name_code self.old.locals name.now spot)) }
+    pub fn put_name(&mut self, spot: Spot, name: &Text) -> Result<(), EmitFault>
+        ensures { Emits result self.old self.new (scheme.name_code self.old.locals name.now spot) }
     {
         if is_local(self.locals, name) {
             let number = number_of_local(self.locals, name);
@@ -168,17 +208,13 @@ impl Emitter<'_> {
     }
 
     /// From an index on, an open label becomes the index so many instructions behind the end of the code.
-    pub fn settle_behind(
-        &mut self,
-        from: usize,
-        unknown: Label,
-        behind: usize,
-    ) -> Result<(), AllocError>
-        requires { from ≤ length self.old.code }
-        ensures { OnOk result (self.new ≡ record self.old { code = opened.changed_from (opened.settled unknown (length self.old.code + behind)) from self.old.code }) }
+    #[tactic(auto, using(crate::proofs::Settled::changed_length))]
+    pub fn settle_behind(&mut self, from: usize, unknown: Label, behind: usize)
+        requires from { from ≤ length self.old.code }
+        requires near { behind ≤ 3 }
+        ensures { self.new ≡ record self.old { code = opened.changed_from (opened.settled unknown (length self.old.code + behind)) from self.old.code } }
     {
-        let done = more(behind, self.code.len())?;
+        let done = self.code.len() + behind;
         settle(&mut self.code, from, unknown, done);
-        Ok(())
     }
 }

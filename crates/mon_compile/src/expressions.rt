@@ -1,26 +1,25 @@
 //! The code of expressions.
 
-ghost use Rattle.std.specs.Prelude.{◌≡◌, [], ◌∷◌, ◌++◌, length, map, OnOk};
+ghost use Rattle.std.specs.Prelude.{◌≡◌, [], ◌∷◌, ◌++◌, length, map};
 ghost use Rattle.mon_events.specs.declared.op.Op.{Op};
 ghost use Rattle.mon_compile.specs.declared.assembly.Argument.TheVariants.{Number};
 ghost use Rattle.mon_compile.specs.Contexts as spec;
-ghost use Rattle.mon_compile.specs.Emission.{emitted, one};
+ghost use Rattle.mon_compile.specs.Emission.{Emits, one};
 ghost use Rattle.mon_compile.specs.Expressions as scheme;
 
 use crate::assembly::Spot;
-use crate::emitter::Emitter;
+use crate::emitter::{EmitFault, Emitter};
 use mon_code::{arith_number, cmp_number};
 use mon_events::Op;
 use mon_trees::tree::{BinaryOperator, Comparison, Expression, Method, Single};
 use mon_values::operator::{ArithOp, CmpOp};
 use mon_values::value::Value;
-use std::alloc::AllocError;
 
 impl Emitter<'_> {
     /// The code of an expression, which pushes one value.
     #[cycle(expression)]
-    pub fn expression(&mut self, spot: Spot, expression: &Expression) -> Result<(), AllocError>
-        ensures { OnOk result (self.new ≡ emitted self.old (scheme.expression_code self.old.locals expression.now spot)) }
+    pub fn expression(&mut self, spot: Spot, expression: &Expression) -> Result<(), EmitFault>
+        ensures { Emits result self.old self.new (scheme.expression_code self.old.locals expression.now spot) }
     {
         match expression {
             Expression::Name(name) => self.put_name(spot, name),
@@ -53,8 +52,8 @@ impl Emitter<'_> {
     }
 
     // LOAD_CONST None; YIELD_VALUE; RESUME 1 (-)
-    fn yield_none(&mut self, spot: Spot) -> Result<(), AllocError>
-        ensures { OnOk result (self.new ≡ emitted self.old (scheme.yield_code (scheme.or_none None) spot)) }
+    fn yield_none(&mut self, spot: Spot) -> Result<(), EmitFault>
+        ensures { Emits result self.old self.new (scheme.yield_code (scheme.or_none None) spot) }
     {
         self.put_constant(spot, Value::None)?;
         self.put_yield(spot)
@@ -62,16 +61,16 @@ impl Emitter<'_> {
 
     // E(value); YIELD_VALUE; RESUME 1 (-)
     #[cycle(expression)]
-    fn yield_value(&mut self, spot: Spot, value: &Expression) -> Result<(), AllocError>
-        ensures { OnOk result (self.new ≡ emitted self.old (scheme.yield_code (scheme.expression_code self.old.locals value.now) spot)) }
+    fn yield_value(&mut self, spot: Spot, value: &Expression) -> Result<(), EmitFault>
+        ensures { Emits result self.old self.new (scheme.yield_code (scheme.expression_code self.old.locals value.now) spot) }
     {
         self.expression(spot, value)?;
         self.put_yield(spot)
     }
 
     // YIELD_VALUE; RESUME 1 (-), above a value.
-    fn put_yield(&mut self, spot: Spot) -> Result<(), AllocError>
-        ensures { OnOk result (self.new ≡ emitted self.old (λ at. spec.put (spec.above 1 spot) Op.YieldValue spec.none ∷ (spec.put (spec.above 1 (spec.bare spot)) Op.Resume (Number 1) ∷ []))) }
+    fn put_yield(&mut self, spot: Spot) -> Result<(), EmitFault>
+        ensures { Emits result self.old self.new (λ at. spec.put (spec.above 1 spot) Op.YieldValue spec.none ∷ (spec.put (spec.above 1 (spec.bare spot)) Op.Resume (Number 1) ∷ [])) }
     {
         let up = spot.above(1)?;
         self.put_plain(up, Op::YieldValue)?;
@@ -80,8 +79,8 @@ impl Emitter<'_> {
 
     // An operand, and then an operator.
     #[cycle(expression)]
-    fn unary(&mut self, spot: Spot, op: Op, a: &Expression) -> Result<(), AllocError>
-        ensures { OnOk result (self.new ≡ emitted self.old (scheme.one_code (scheme.expression_code self.old.locals a.now) op spot)) }
+    fn unary(&mut self, spot: Spot, op: Op, a: &Expression) -> Result<(), EmitFault>
+        ensures { Emits result self.old self.new (scheme.one_code (scheme.expression_code self.old.locals a.now) op spot) }
     {
         self.expression(spot, a)?;
         self.put_plain(spot.above(1)?, op)
@@ -96,12 +95,14 @@ impl Emitter<'_> {
         number: usize,
         a: &Expression,
         b: &Expression,
-    ) -> Result<(), AllocError>
-        ensures { OnOk result (self.new ≡ emitted self.old (scheme.two_code (scheme.expression_code self.old.locals a.now) (scheme.expression_code self.old.locals b.now) op number spot)) }
+    ) -> Result<(), EmitFault>
+        ensures { Emits result self.old self.new (scheme.two_code (scheme.expression_code self.old.locals a.now) (scheme.expression_code self.old.locals b.now) op number spot) }
     {
         self.expression(spot, a)?;
-        self.expression(spot.above(1)?, b)?;
-        self.put_number(spot.above(2)?, op, number)
+        let up = spot.above(1)?;
+        self.expression(up, b)?;
+        self.put_number(spot.above(2)?, op, number)?;
+        Ok(())
     }
 
     // Two operands, and then COMPARE_OP or CONTAINS_OP.
@@ -112,8 +113,8 @@ impl Emitter<'_> {
         op: Comparison,
         a: &Expression,
         b: &Expression,
-    ) -> Result<(), AllocError>
-        ensures { OnOk result (self.new ≡ emitted self.old (scheme.two_code (scheme.expression_code self.old.locals a.now) (scheme.expression_code self.old.locals b.now) (scheme.comparison_op op) (scheme.comparison_number op) spot)) }
+    ) -> Result<(), EmitFault>
+        ensures { Emits result self.old self.new (scheme.two_code (scheme.expression_code self.old.locals a.now) (scheme.expression_code self.old.locals b.now) (scheme.comparison_op op) (scheme.comparison_number op) spot) }
     {
         self.binary(spot, comparison_op(op), comparison_number(op), a, b)
     }
@@ -126,8 +127,8 @@ impl Emitter<'_> {
         a: &Expression,
         number: usize,
         single: Single,
-    ) -> Result<(), AllocError>
-        ensures { OnOk result (self.new ≡ emitted self.old (scheme.two_code (scheme.expression_code self.old.locals a.now) (scheme.constant_code (scheme.single_value single)) Op.IsOp number spot)) }
+    ) -> Result<(), EmitFault>
+        ensures { Emits result self.old self.new (scheme.two_code (scheme.expression_code self.old.locals a.now) (scheme.constant_code (scheme.single_value single)) Op.IsOp number spot) }
     {
         self.expression(spot, a)?;
         self.put_constant(spot.above(1)?, single_value(single))?;
@@ -136,8 +137,8 @@ impl Emitter<'_> {
 
     // Expressions one after another, each above the values of those before.
     #[cycle(expression)]
-    fn expressions(&mut self, spot: Spot, expressions: &[Expression]) -> Result<(), AllocError>
-        ensures { OnOk result (self.new ≡ emitted self.old (scheme.in_turn (map (scheme.expression_code self.old.locals) expressions.now) spot)) }
+    fn expressions(&mut self, spot: Spot, expressions: &[Expression]) -> Result<(), EmitFault>
+        ensures { Emits result self.old self.new (scheme.in_turn (map (scheme.expression_code self.old.locals) expressions.now) spot) }
     {
         let mut up = spot;
         for expression in expressions {
@@ -149,8 +150,8 @@ impl Emitter<'_> {
 
     // E of each; BUILD_TUPLE n
     #[cycle(expression)]
-    fn tuple(&mut self, spot: Spot, parts: &[Expression]) -> Result<(), AllocError>
-        ensures { OnOk result (self.new ≡ emitted self.old (scheme.tuple_code (map (scheme.expression_code self.old.locals) parts.now) spot)) }
+    fn tuple(&mut self, spot: Spot, parts: &[Expression]) -> Result<(), EmitFault>
+        ensures { Emits result self.old self.new (scheme.tuple_code (map (scheme.expression_code self.old.locals) parts.now) spot) }
     {
         self.expressions(spot, parts)?;
         self.put_number(spot.above(parts.len())?, Op::BuildTuple, parts.len())
@@ -158,12 +159,13 @@ impl Emitter<'_> {
 
     // E(f); E of each; CALL n
     #[cycle(expression)]
-    fn call(&mut self, spot: Spot, f: &Expression, args: &[Expression]) -> Result<(), AllocError>
-        ensures { OnOk result (self.new ≡ emitted self.old (scheme.call_code (scheme.expression_code self.old.locals f.now) (map (scheme.expression_code self.old.locals) args.now) spot)) }
+    fn call(&mut self, spot: Spot, f: &Expression, args: &[Expression]) -> Result<(), EmitFault>
+        ensures { Emits result self.old self.new (scheme.call_code (scheme.expression_code self.old.locals f.now) (map (scheme.expression_code self.old.locals) args.now) spot) }
     {
         self.expression(spot, f)?;
         let up = spot.above(1)?;
-        self.arguments(up, args, args.len())
+        self.arguments(up, args, args.len())?;
+        Ok(())
     }
 
     // E(object); LOAD_METHOD m; E of each; CALL n+1
@@ -174,20 +176,21 @@ impl Emitter<'_> {
         object: &Expression,
         method: Method,
         args: &[Expression],
-    ) -> Result<(), AllocError>
-        ensures { OnOk result (self.new ≡ emitted self.old (scheme.method_code (scheme.expression_code self.old.locals object.now) (scheme.method_number method) (map (scheme.expression_code self.old.locals) args.now) spot)) }
+    ) -> Result<(), EmitFault>
+        ensures { Emits result self.old self.new (scheme.method_code (scheme.expression_code self.old.locals object.now) (scheme.method_number method) (map (scheme.expression_code self.old.locals) args.now) spot) }
     {
         self.expression(spot, object)?;
         let up = spot.above(1)?;
         self.put_number(up, Op::LoadMethod, method_number(method))?;
         let higher = spot.above(2)?;
-        self.arguments(higher, args, args.len() + 1)
+        self.arguments(higher, args, args.len() + 1)?;
+        Ok(())
     }
 
     // E of each; CALL with a count
     #[cycle(expression)]
-    fn arguments(&mut self, spot: Spot, args: &[Expression], count: usize) -> Result<(), AllocError>
-        ensures { OnOk result (self.new ≡ emitted self.old (λ at. scheme.in_turn (map (scheme.expression_code self.old.locals) args.now) spot at ++ (spec.put (spec.above (length args.now) spot) Op.Call (Number count) ∷ []))) }
+    fn arguments(&mut self, spot: Spot, args: &[Expression], count: usize) -> Result<(), EmitFault>
+        ensures { Emits result self.old self.new (λ at. scheme.in_turn (map (scheme.expression_code self.old.locals) args.now) spot at ++ (spec.put (spec.above (length args.now) spot) Op.Call (Number count) ∷ [])) }
     {
         self.expressions(spot, args)?;
         self.put_number(spot.above(args.len())?, Op::Call, count)
@@ -201,8 +204,8 @@ impl Emitter<'_> {
         a: &Expression,
         jump: Op,
         b: &Expression,
-    ) -> Result<(), AllocError>
-        ensures { OnOk result (self.new ≡ emitted self.old (scheme.short_code (scheme.expression_code self.old.locals a.now) (scheme.expression_code self.old.locals b.now) jump spot)) }
+    ) -> Result<(), EmitFault>
+        ensures { Emits result self.old self.new (scheme.short_code (scheme.expression_code self.old.locals a.now) (scheme.expression_code self.old.locals b.now) jump spot) }
     {
         self.expression(spot, a)?;
         let up = spot.above(1)?;
@@ -224,8 +227,8 @@ impl Emitter<'_> {
         a: &Expression,
         test: &Expression,
         b: &Expression,
-    ) -> Result<(), AllocError>
-        ensures { OnOk result (self.new ≡ emitted self.old (scheme.conditional_code (scheme.expression_code self.old.locals a.now) (scheme.expression_code self.old.locals test.now) (scheme.expression_code self.old.locals b.now) spot)) }
+    ) -> Result<(), EmitFault>
+        ensures { Emits result self.old self.new (scheme.conditional_code (scheme.expression_code self.old.locals a.now) (scheme.expression_code self.old.locals test.now) (scheme.expression_code self.old.locals b.now) spot) }
     {
         self.expression(spot, test)?;
         let up = spot.above(1)?;

@@ -2,7 +2,9 @@
 
 ghost use Rattle.std.specs.Prelude.{◌≡◌};
 ghost use Rattle.mon_compile.specs.declared.fault.CompileFault.TheVariants.{Memory};
+ghost use Rattle.mon_compile.specs.Answered.{fault_of_emission};
 
+use crate::emitter::EmitFault;
 use std::alloc::AllocError;
 use thiserror::Error;
 
@@ -34,5 +36,16 @@ impl From<AllocError> for CompileFault {
 
     fn from(_: AllocError) -> CompileFault {
         CompileFault::Memory
+    }
+}
+
+impl From<EmitFault> for CompileFault {
+    ghost from_gives = { λ fault e. e ≡ fault_of_emission fault };
+
+    fn from(fault: EmitFault) -> CompileFault {
+        match fault {
+            EmitFault::TooManyLocations => CompileFault::TooManyLocations,
+            EmitFault::Memory => CompileFault::Memory,
+        }
     }
 }

@@ -1,29 +1,33 @@
 //! The code of a function.
 
-ghost use Rattle.std.specs.Prelude.{◌≡◌, OnOk, IfOk};
-ghost use Rattle.mon_compile.specs.Emission.{emitted};
+ghost use Rattle.std.specs.Prelude.{◌≡◌, ◌≤◌};
+ghost use Rattle.mon_compile.specs.Answered.{AnswersCode};
+ghost use Rattle.mon_compile.specs.Emission.{Emits};
+ghost use Rattle.mon_compile.specs.Faults.{most_locations};
 ghost use Rattle.mon_compile.specs.Functions as spec;
 
 use crate::assembly::Instruction;
-use crate::emitter::Emitter;
+use crate::emitter::{EmitFault, Emitter};
 use crate::surroundings::Surroundings;
 use crate::yields::is_generator;
 use mon_events::Op;
 use mon_trees::Text;
 use mon_trees::tree::Function;
 use mon_values::value::Value;
-use std::alloc::{AllocError, Global};
+use std::alloc::Global;
 
-/// The code of a function with these locals.
+/// The code of a function with these locals, where it has at most so many instructions.
 pub fn function_code(
     alloc: Global,
     function: &Function,
     locals: &[Text],
-) -> Result<Vec<Instruction>, AllocError>
-    requires { locals.now ≡ spec.locals_of function.now }
-    ensures { IfOk result (λ code. code.items ≡ spec.function_code function.now) }
+    limit: usize,
+) -> Result<Vec<Instruction>, EmitFault>
+    requires locals { locals.now ≡ spec.locals_of function.now }
+    requires limit { limit ≤ most_locations }
+    ensures { AnswersCode result limit function.now }
 {
-    let mut emitter = Emitter::new(alloc, locals);
+    let mut emitter = Emitter::new(alloc, locals, limit);
     emitter.start(is_generator(function))?;
     emitter.block(&Surroundings::Top, function.body.as_slice())?;
     emitter.end()?;
@@ -32,8 +36,8 @@ pub fn function_code(
 
 impl Emitter<'_> {
     // What stands before the body.
-    fn start(&mut self, generates: bool) -> Result<(), AllocError>
-        ensures { OnOk result (self.new ≡ emitted self.old (λ at. spec.start_code generates)) }
+    fn start(&mut self, generates: bool) -> Result<(), EmitFault>
+        ensures { Emits result self.old self.new (λ at. spec.start_code generates) }
     {
         let spot = Surroundings::Top.no_line()?;
         if generates {
@@ -44,8 +48,8 @@ impl Emitter<'_> {
     }
 
     // What stands behind the body.
-    fn end(&mut self) -> Result<(), AllocError>
-        ensures { OnOk result (self.new ≡ emitted self.old (λ at. spec.end_code)) }
+    fn end(&mut self) -> Result<(), EmitFault>
+        ensures { Emits result self.old self.new (λ at. spec.end_code) }
     {
         let spot = Surroundings::Top.no_line()?;
         self.put_constant(spot, Value::None)?;

@@ -1,7 +1,8 @@
 //! From the trees of a module to its program.
 
-ghost use Rattle.std.specs.Prelude.{◌≡◌, ◌++◌, [], ◌∷◌, length, map, IfOk, OnOk};
-ghost use Rattle.mon_compile.specs.Answered.{AnswersCompiled, ListsCodes, own_codes};
+ghost use Rattle.std.specs.Prelude.{◌≡◌, ◌≤◌, [], ◌∷◌, length, map, IfOk};
+ghost use Rattle.mon_compile.specs.Answered.{AddsCodes, AnswersCompiled, ListsCodes};
+ghost use Rattle.mon_compile.specs.Faults.{most_locations};
 ghost use Rattle.mon_compile.specs.Modules as spec;
 
 use crate::bindings::locals;
@@ -59,16 +60,13 @@ fn list_codes(alloc: Global, items: &[ModuleItem]) -> Result<Listing, CompileFau
     };
     for item in items {
         add_item(alloc, &mut listing, item)?;
-        if listing.bases.len() > MOST_LOCATIONS {
-            return Err(CompileFault::TooManyLocations);
-        }
     }
     Ok(listing)
 }
 
-fn add_item(alloc: Global, listing: &mut Listing, item: &ModuleItem) -> Result<(), AllocError>
-    ensures codes { OnOk result (listing.new.codes ≡ listing.old.codes ++ own_codes (length listing.old.bases.items) (spec.functions_of (item.now ∷ []))) }
-    ensures bases { OnOk result (listing.new.bases.items ≡ listing.old.bases.items ++ spec.bases_of (spec.functions_of (item.now ∷ []))) }
+fn add_item(alloc: Global, listing: &mut Listing, item: &ModuleItem) -> Result<(), CompileFault>
+    requires { length listing.old.bases.items ≤ most_locations }
+    ensures { AddsCodes result listing.old listing.new (spec.functions_of (item.now ∷ [])) }
 {
     match item {
         ModuleItem::Function(function) => add_function(alloc, listing, function),
@@ -76,13 +74,18 @@ fn add_item(alloc: Global, listing: &mut Listing, item: &ModuleItem) -> Result<(
     }
 }
 
-fn add_function(alloc: Global, listing: &mut Listing, function: &Function) -> Result<(), AllocError>
-    ensures codes { OnOk result (listing.new.codes ≡ listing.old.codes ++ own_codes (length listing.old.bases.items) (function.now ∷ [])) }
-    ensures bases { OnOk result (listing.new.bases.items ≡ listing.old.bases.items ++ spec.bases_of (function.now ∷ [])) }
+fn add_function(
+    alloc: Global,
+    listing: &mut Listing,
+    function: &Function,
+) -> Result<(), CompileFault>
+    requires { length listing.old.bases.items ≤ most_locations }
+    ensures { AddsCodes result listing.old listing.new (function.now ∷ []) }
 {
     let locals = locals(alloc, function)?;
-    let instructions = function_code(alloc, function, locals.as_slice())?;
     let first = listing.bases.len();
+    let room = MOST_LOCATIONS - first;
+    let instructions = function_code(alloc, function, locals.as_slice(), room)?;
     let code = place(
         alloc,
         function,

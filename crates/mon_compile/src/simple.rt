@@ -1,23 +1,22 @@
 //! The code of statements without a block.
 
-ghost use Rattle.std.specs.Prelude.{◌≡◌, ◌+◌, [], ◌∷◌, ◌++◌, OnOk};
+ghost use Rattle.std.specs.Prelude.{◌≡◌, ◌+◌, [], ◌∷◌, ◌++◌};
 ghost use Rattle.mon_events.specs.declared.op.Op.{Op};
 ghost use Rattle.mon_compile.specs.declared.assembly.Argument.TheVariants.{Number};
 ghost use Rattle.mon_compile.specs.Contexts as spec;
-ghost use Rattle.mon_compile.specs.Emission.{emitted};
+ghost use Rattle.mon_compile.specs.Emission.{Emits};
 ghost use Rattle.mon_compile.specs.Expressions as scheme;
 ghost use Rattle.mon_compile.specs.Open.{open_context};
 ghost use Rattle.mon_compile.specs.Statements as statements;
 
 use crate::assembly::Spot;
-use crate::emitter::Emitter;
+use crate::emitter::{EmitFault, Emitter};
 use crate::expressions::binary_number;
 use crate::surroundings::Surroundings;
 use mon_events::Op;
 use mon_trees::Text;
 use mon_trees::tree::{BinaryOperator, Expression, Simple, Targets};
 use mon_values::value::Value;
-use std::alloc::AllocError;
 
 /// Whether an expression is a text alone.
 pub fn is_lone_text(expression: &Expression) -> bool
@@ -33,8 +32,8 @@ impl Emitter<'_> {
         context: &Surroundings,
         line: u32,
         simple: &Simple,
-    ) -> Result<(), AllocError>
-        ensures { OnOk result (self.new ≡ emitted self.old (statements.simple_code self.old.locals line simple.now (open_context context.now))) }
+    ) -> Result<(), EmitFault>
+        ensures { Emits result self.old self.new (statements.simple_code self.old.locals line simple.now (open_context context.now)) }
     {
         let spot = context.at_line(line)?;
         match simple {
@@ -66,8 +65,8 @@ impl Emitter<'_> {
     }
 
     // The value on top is returned: leave all entries; RETURN_VALUE
-    fn leave_function(&mut self, context: &Surroundings, line: u32) -> Result<(), AllocError>
-        ensures { OnOk result (self.new ≡ emitted self.old (λ at. statements.leave_all (open_context context.now) at ++ (spec.put (spec.above 1 (spec.at_line line [])) Op.ReturnValue spec.none ∷ []))) }
+    fn leave_function(&mut self, context: &Surroundings, line: u32) -> Result<(), EmitFault>
+        ensures { Emits result self.old self.new (λ at. statements.leave_all (open_context context.now) at ++ (spec.put (spec.above 1 (spec.at_line line [])) Op.ReturnValue spec.none ∷ [])) }
     {
         self.leave_all(context)?;
         let spot = Surroundings::Top.at_line(line)?;
@@ -81,8 +80,8 @@ impl Emitter<'_> {
         expression: &Expression,
         op: Op,
         number: usize,
-    ) -> Result<(), AllocError>
-        ensures { OnOk result (self.new ≡ emitted self.old (λ at. scheme.expression_code self.old.locals expression.now spot at ++ (spec.put (spec.above 1 spot) op (Number number) ∷ []))) }
+    ) -> Result<(), EmitFault>
+        ensures { Emits result self.old self.new (λ at. scheme.expression_code self.old.locals expression.now spot at ++ (spec.put (spec.above 1 spot) op (Number number) ∷ [])) }
     {
         self.expression(spot, expression)?;
         self.put_number(spot.above(1)?, op, number)
@@ -95,20 +94,21 @@ impl Emitter<'_> {
         name: &Text,
         op: BinaryOperator,
         expression: &Expression,
-    ) -> Result<(), AllocError>
-        ensures { OnOk result (self.new ≡ emitted self.old (λ at. spec.put spot Op.LoadFast (Number (scheme.number_of_local self.old.locals name.now)) ∷ (scheme.expression_code self.old.locals expression.now (spec.above 1 spot) (at + 1) ++ (spec.put (spec.above 2 spot) Op.BinaryOp (Number (scheme.binary_number op)) ∷ (spec.put (spec.above 1 spot) Op.StoreFast (Number (scheme.number_of_local self.old.locals name.now)) ∷ []))))) }
+    ) -> Result<(), EmitFault>
+        ensures { Emits result self.old self.new (λ at. spec.put spot Op.LoadFast (Number (scheme.number_of_local self.old.locals name.now)) ∷ (scheme.expression_code self.old.locals expression.now (spec.above 1 spot) (at + 1) ++ (spec.put (spec.above 2 spot) Op.BinaryOp (Number (scheme.binary_number op)) ∷ (spec.put (spec.above 1 spot) Op.StoreFast (Number (scheme.number_of_local self.old.locals name.now)) ∷ [])))) }
     {
         let local = self.local(name);
         self.put_number(spot, Op::LoadFast, local)?;
         let up = spot.above(1)?;
         self.expression(up, expression)?;
         self.put_number(spot.above(2)?, Op::BinaryOp, binary_number(op))?;
-        self.put_number(up, Op::StoreFast, local)
+        self.put_number(up, Op::StoreFast, local)?;
+        Ok(())
     }
 
     /// The value above a spot goes into what is assigned to.
-    pub fn store(&mut self, spot: Spot, targets: &Targets) -> Result<(), AllocError>
-        ensures { OnOk result (self.new ≡ emitted self.old (λ at. scheme.store_code self.old.locals targets.now spot)) }
+    pub fn store(&mut self, spot: Spot, targets: &Targets) -> Result<(), EmitFault>
+        ensures { Emits result self.old self.new (λ at. scheme.store_code self.old.locals targets.now spot) }
     {
         let up = spot.above(1)?;
         match targets {
@@ -124,8 +124,8 @@ impl Emitter<'_> {
     }
 
     // The names of a tuple, the first on top.
-    fn store_names(&mut self, spot: Spot, names: &[Text]) -> Result<(), AllocError>
-        ensures { OnOk result (self.new ≡ emitted self.old (λ at. scheme.store_names self.old.locals names.now spot)) }
+    fn store_names(&mut self, spot: Spot, names: &[Text]) -> Result<(), EmitFault>
+        ensures { Emits result self.old self.new (λ at. scheme.store_names self.old.locals names.now spot) }
     {
         let mut left = names;
         while let Some((name, others)) = left.split_first() {

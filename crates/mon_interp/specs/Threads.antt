@@ -3,6 +3,7 @@ use Rattle.std.specs.Prelude.{◌≡◌, ℕ, ◌==◌, Bool, false, List, [], l
 use Rattle.mon_values.specs.declared.value.Value.{Value}
 use Rattle.mon_code.specs.declared.program.Code.{Code}
 use Rattle.mon_code.specs.Programs.{Parts, code_named}
+use Rattle.std.specs.Str.{chars}
 use Rattle.mon_machine.specs.State.{start}
 use Rattle.mon_recorders.specs.declared.report.ThreadReport.{ThreadReport}
 use Rattle.mon_machine.specs.Run.{Progress, outcome_of}
@@ -30,9 +31,9 @@ abbrev pub number_due : Parts → Option ℕ → List Value → Result ThreadVie
 number_due p None args = Err NoFunction
 number_due p (Some number) args = code_due number (slice_get p.codes number) args
 
--- a call of the function of this name
+-- a call of the function whose name these bytes spell
 abbrev pub entry_due : Parts → List ℕ → List Value → Result ThreadView EntryFault
-entry_due p name args = number_due p (code_named p name) args
+entry_due p name args = number_due p (code_named p (chars name)) args
 
 -- the due answer, or want of memory
 abbrev pub AnswersEntry : Result ThreadView EntryFault → Result ThreadView EntryFault → Type 0

@@ -172,7 +172,8 @@ fn program(alloc: Global) -> Result<Program, AllocError>
     };
     let mut codes = Items::new(alloc);
     codes.push(code)?;
-    let names = one_text(alloc, "g")?;
+    let mut names = Items::new(alloc);
+    names.push(Text::from_chars(alloc, &['π'])?)?;
     let named = Items::new(alloc);
     let bases = Items::from_slice(alloc, &BASES)?;
     Ok(Program::new(names, named, codes, bases))
@@ -213,7 +214,7 @@ fn counts_down(
 {
     let program = program(alloc)?;
     let mut words = loud_words(rt, alloc)?;
-    let Ok(mut thread) = Thread::new(alloc, &program, "g", &[Value::Int(2)]) else {
+    let Ok(mut thread) = Thread::new(alloc, &program, "π", &[Value::Int(2)]) else {
         return Ok(false);
     };
     if thread.steps() > 0 {

@@ -4,6 +4,7 @@ use Rattle.std.specs.List.{list_all, slice_split}
 use Rattle.std.specs.Char.{is_ascii_digit, is_ascii_alphanumeric}
 use Rattle.std.specs.Fmt.{decimal}
 use Rattle.mon_code.specs.declared.program.Code.{Code}
+use Rattle.std.specs.Str.{chars}
 use Rattle.mon_code.specs.Programs.{Parts, code_named}
 use Rattle.mon_main.specs.declared.plan.Plan.{Plan}
 use Rattle.mon_main.specs.declared.read.Start.{Start}
@@ -85,7 +86,7 @@ start_in cs (Some code) args = start_if (parameters_of (slice_get cs code)) code
 
 abbrev pub start_named : Parts → List ℕ → Option (List ℤ) → Option Start
 start_named p name None = None
-start_named p name (Some args) = if nat_lt 0 (length name) then start_in p.codes (code_named p name) args else None
+start_named p name (Some args) = if nat_lt 0 (length name) then start_in p.codes (code_named p (chars name)) args else None
 
 abbrev pub start_of_words : Parts → List (List ℕ) → Option Start
 start_of_words p [] = None

@@ -1,6 +1,6 @@
-use Rattle.std.proofs.Common.{◌≡◌, drop}
+use Rattle.std.proofs.Common.{◌≡◌, drop, chars}
 use Rattle.mon_code.specs.Programs.{code_named, first_named}
 use Rattle.mon_code.proofs.program.Program.code_named.Given as goal
 
 abbrev pub invariant-loop-k : goal.invariant-loop-k
-invariant-loop-k l = code_named l.self l.name ≡ first_named l.k (drop l.k l.self.names) l.name
+invariant-loop-k l = code_named l.self (chars l.name) ≡ first_named l.k (drop l.k l.self.names) (chars l.name)

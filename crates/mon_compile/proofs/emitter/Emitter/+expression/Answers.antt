@@ -1,11 +1,13 @@
-use Rattle.std.proofs.Common.{ℕ, ◌+◌, ◌∙◌, length, map, ap, refl, sym, arith}
+use Rattle.std.proofs.Common.{ℕ, ◌+◌, ◌∙◌, [], ◌∷◌, ◌++◌, length, map, ap, refl, sym, arith, length-append}
 use Rattle.std.proofs.lemmas.List.{length-map}
-use Rattle.std.proofs.lemmas.Result.{on_ok_weaker}
-use Rattle.mon_compile.specs.Contexts.{Spot, bare}
+use Rattle.mon_events.specs.declared.op.Op.{Op}
+use Rattle.mon_compile.specs.Contexts.{Spot, put, none, bare}
+use Rattle.mon_compile.specs.Emission.{emitted}
 use Rattle.mon_compile.specs.Expressions as scheme
 use Rattle.mon_compile.proofs.Nodes.{nodes_within}
-use Rattle.mon_compile.proofs.Emissions.{locals_of, code_of, step, whole}
+use Rattle.mon_compile.proofs.Emissions.{frame_of, code_of, step, whole, stop, stop_one}
 use Rattle.mon_compile.proofs.ExpressionHoles.{short_written, conditional_written}
+use Rattle.mon_compile.proofs.Sizes.{two_size, short_size, conditional_size}
 use Rattle.mon_compile.proofs.Turns.{turn_next, called, call_written, method_written}
 use Rattle.mon_compile.proofs.emitter.Emitter.+expression.Goals as goal
 
@@ -22,12 +24,9 @@ call-returns t c =
     let args = c.args.args.now in
     let coder = scheme.expression_code l in
     let part = λ (k : scheme.Locals) (at : ℕ). called (map (scheme.expression_code k) args) (length args) (length args) c.in_ok-up.up at in
-    on_ok_weaker
-    c.arguments.result
-    (λ k. let last = step part l _ _ (ap locals_of c.in_ok-expression.ensures) k in
+    let last = step part (frame_of c.args.self.now) _ _ (ap frame_of c.in_ok-expression.ensures) c.in_ok-arguments.ensures in
     whole c.args.self.now c.arguments.new.self _ last.0
-    (call_written (coder c.args.f.now) (map coder args) c.args.spot _ _ c.args.self.now.code _ _ (sym (length-map args coder)) (ap code_of c.in_ok-expression.ensures) c.in_ok-up.ensures last.1))
-    c.arguments.ensures
+    (call_written (coder c.args.f.now) (map coder args) c.args.spot _ _ c.args.self.now.code _ _ (sym (length-map args coder)) (ap code_of c.in_ok-expression.ensures) c.in_ok-up.ensures last.1)
 
 pub method_call-returns : goal.method_call-returns
 method_call-returns t c =
@@ -35,21 +34,18 @@ method_call-returns t c =
     let args = c.args.args.now in
     let coder = scheme.expression_code l in
     let part = λ (k : scheme.Locals) (at : ℕ). called (map (scheme.expression_code k) args) (length args) (length args + 1) c.in_ok-higher.higher at in
-    on_ok_weaker
-    c.arguments.result
-    (λ k. let last = step part l _ _ (ap locals_of c.in_ok-put_number.ensures ∙ ap locals_of c.in_ok-expression.ensures) k in
+    let last = step part (frame_of c.args.self.now) _ _ (ap frame_of c.in_ok-put_number.ensures ∙ ap frame_of c.in_ok-expression.ensures) c.in_ok-arguments.ensures in
     whole c.args.self.now c.arguments.new.self _ last.0
-    (method_written (coder c.args.object.now) (map coder args) c.args.spot _ _ _ _ _ c.args.self.now.code _ _ _ (sym (length-map args coder)) c.method_number.ensures (ap code_of c.in_ok-expression.ensures) c.in_ok-up.ensures (ap code_of c.in_ok-put_number.ensures) c.in_ok-higher.ensures last.1))
-    c.arguments.ensures
+    (method_written (coder c.args.object.now) (map coder args) c.args.spot _ _ _ _ _ c.args.self.now.code _ _ _ (sym (length-map args coder)) c.method_number.ensures (ap code_of c.in_ok-expression.ensures) c.in_ok-up.ensures (ap code_of c.in_ok-put_number.ensures) c.in_ok-higher.ensures last.1)
 
 pub short-returns : goal.short-returns
 short-returns t c =
     let l = c.args.self.now.locals in
     let a = scheme.expression_code l c.args.a.now in
     let b = scheme.expression_code l c.args.b.now in
-    let same = ap locals_of c.in_ok-put_plain-2.ensures ∙ ap locals_of c.in_ok-put_plain.ensures ∙ ap locals_of c.in_ok-put_number.ensures ∙ ap locals_of c.in_ok-expression.ensures in
-    let right = step (λ k. scheme.expression_code k c.args.b.now c.args.spot) l _ _ same c.in_ok-expression-2.ensures in
-    whole c.args.self.now c.jump_here.new.self _ (ap locals_of c.jump_here.ensures ∙ right.0)
+    let same = ap frame_of c.in_ok-put_plain-2.ensures ∙ ap frame_of c.in_ok-put_plain.ensures ∙ ap frame_of c.in_ok-put_number.ensures ∙ ap frame_of c.in_ok-expression.ensures in
+    let right = step (λ k. scheme.expression_code k c.args.b.now c.args.spot) (frame_of c.args.self.now) _ _ same c.in_ok-expression-2.ensures in
+    whole c.args.self.now c.jump_here.new.self _ (ap frame_of c.jump_here.ensures ∙ right.0)
     (ap code_of c.jump_here.ensures
     ∙ short_written a b c.args.jump c.args.spot _ _ c.args.self.now.code _ _ _ _ _ _ _ _ _
     c.in_ok-up.ensures c.in_ok-higher.ensures (ap code_of c.in_ok-expression.ensures) (ap code_of c.in_ok-put_number.ensures) c.here-hole.ensures (ap code_of c.in_ok-put_plain.ensures) (ap code_of c.in_ok-put_plain-2.ensures) right.1 refl refl)
@@ -60,11 +56,102 @@ conditional-returns t c =
     let a = scheme.expression_code l c.args.a.now in
     let test = scheme.expression_code l c.args.test.now in
     let b = scheme.expression_code l c.args.b.now in
-    let same = ap locals_of c.in_ok-put_plain.ensures ∙ ap locals_of c.in_ok-expression.ensures in
-    let left = step (λ k. scheme.expression_code k c.args.a.now c.args.spot) l _ _ same c.in_ok-expression-2.ensures in
-    let right = step (λ k. scheme.expression_code k c.args.b.now c.args.spot) l _ _ (ap locals_of c.in_ok-put_plain-2.ensures ∙ left.0) c.in_ok-expression-3.ensures in
-    whole c.args.self.now c.set_jump-2.new.self _ (ap locals_of c.set_jump-2.ensures ∙ ap locals_of c.set_jump.ensures ∙ right.0)
+    let same = ap frame_of c.in_ok-put_plain.ensures ∙ ap frame_of c.in_ok-expression.ensures in
+    let left = step (λ k. scheme.expression_code k c.args.a.now c.args.spot) (frame_of c.args.self.now) _ _ same c.in_ok-expression-2.ensures in
+    let right = step (λ k. scheme.expression_code k c.args.b.now c.args.spot) (frame_of c.args.self.now) _ _ (ap frame_of c.in_ok-put_plain-2.ensures ∙ left.0) c.in_ok-expression-3.ensures in
+    whole c.args.self.now c.set_jump-2.new.self _ (ap frame_of c.set_jump-2.ensures ∙ ap frame_of c.set_jump.ensures ∙ right.0)
     (ap code_of c.set_jump-2.ensures
     ∙ conditional_written a test b c.args.spot _ _ c.args.self.now.code _ _ _ _ _ _ _ _ _ _ _ _ _ _
     c.in_ok-up.ensures (c.bare-low.ensures ∙ ap (λ (z : Spot). bare z) c.in_ok-up.ensures) (ap code_of c.in_ok-expression.ensures) c.here-branch.ensures (ap code_of c.in_ok-put_plain.ensures) left.1
     c.here-jump.ensures (ap code_of c.in_ok-put_plain-2.ensures) c.here-other.ensures right.1 c.here-end.ensures refl (ap code_of c.set_jump.ensures) refl)
+
+-- where a part is too long
+
+pub binary-returns-in_err-expression-2 : goal.binary-returns-in_err-expression-2
+binary-returns-in_err-expression-2 t c =
+    let e0 = c.args.self.now in
+    let e = c.expression.new.self in
+    let same = ap frame_of c.in_ok-expression.ensures in
+    let part = λ (k : scheme.Locals). scheme.expression_code k c.args.b.now c.in_ok-up.up in
+    let right = step part (frame_of e0) e (emitted e (part e.locals)) same refl in
+    stop _ _ e0 _ e _ (part e.locals) _ c.from_residual-in_err-expression-2.ensures.1 same
+    (omega (arith, two_size (scheme.expression_code e0.locals c.args.a.now) (scheme.expression_code e0.locals c.args.b.now) c.args.op c.args.number c.args.spot c.in_ok-up.up e0.code e.code (emitted e (part e.locals)).code c.in_ok-up.ensures (ap code_of c.in_ok-expression.ensures) right.1))
+    c.in_err-expression-2.ensures
+
+pub binary-returns-in_err-put_number : goal.binary-returns-in_err-put_number
+binary-returns-in_err-put_number t c =
+    let e0 = c.args.self.now in
+    let e = c.expression-2.new.self in
+    let part = λ (k : scheme.Locals). scheme.expression_code k c.args.b.now c.in_ok-up.up in
+    let right = step part (frame_of e0) _ e (ap frame_of c.in_ok-expression.ensures) c.in_ok-expression-2.ensures in
+    stop_one _ _ e0 _ e _ _ _ c.from_residual-in_err-put_number.ensures.1 right.0
+    (omega (arith, two_size (scheme.expression_code e0.locals c.args.a.now) (scheme.expression_code e0.locals c.args.b.now) c.args.op c.args.number c.args.spot c.in_ok-up.up e0.code c.expression.new.self.code e.code c.in_ok-up.ensures (ap code_of c.in_ok-expression.ensures) right.1))
+    c.in_err-put_number.ensures
+
+pub short-returns-in_err-expression-2 : goal.short-returns-in_err-expression-2
+short-returns-in_err-expression-2 t c =
+    let e0 = c.args.self.now in
+    let e = c.put_plain-2.new.self in
+    let same = ap frame_of c.in_ok-put_plain-2.ensures ∙ ap frame_of c.in_ok-put_plain.ensures ∙ ap frame_of c.in_ok-put_number.ensures ∙ ap frame_of c.in_ok-expression.ensures in
+    let part = λ (k : scheme.Locals). scheme.expression_code k c.args.b.now c.args.spot in
+    let right = step part (frame_of e0) e (emitted e (part e.locals)) same refl in
+    stop _ _ e0 _ e _ (part e.locals) _ c.from_residual-in_err-expression-2.ensures.1 same
+    (omega (
+      arith,
+      short_size (scheme.expression_code e0.locals c.args.a.now) (scheme.expression_code e0.locals c.args.b.now) c.args.jump c.args.spot e0.code c.expression.new.self.code c.put_number.new.self.code c.put_plain.new.self.code e.code (emitted e (part e.locals)).code _ _ _
+          (ap code_of c.in_ok-expression.ensures) (ap code_of c.in_ok-put_number.ensures) (ap code_of c.in_ok-put_plain.ensures) (ap code_of c.in_ok-put_plain-2.ensures) right.1,
+    ))
+    c.in_err-expression-2.ensures
+
+pub conditional-returns-in_err-expression-2 : goal.conditional-returns-in_err-expression-2
+conditional-returns-in_err-expression-2 t c =
+    let e0 = c.args.self.now in
+    let a = scheme.expression_code e0.locals c.args.a.now in
+    let test = scheme.expression_code e0.locals c.args.test.now in
+    let b = scheme.expression_code e0.locals c.args.b.now in
+    let c2 = c.put_plain.new.self in
+    let same = ap frame_of c.in_ok-put_plain.ensures ∙ ap frame_of c.in_ok-expression.ensures in
+    let part = λ (k : scheme.Locals). scheme.expression_code k c.args.a.now c.args.spot in
+    let c3 = emitted c2 (part c2.locals) in
+    let left = step part (frame_of e0) c2 c3 same refl in
+    let c4 = c3.code ++ (put c.args.spot Op.Nop none ∷ []) in
+    let right = b c.args.spot (length c4) in
+    stop _ _ e0 _ c2 _ (part c2.locals) _ c.from_residual-in_err-expression-2.ensures.1 same
+    (omega (arith, conditional_size a test b c.args.spot e0.code c.expression.new.self.code c2.code c3.code c4 (c4 ++ right) _ _ (ap code_of c.in_ok-expression.ensures) (ap code_of c.in_ok-put_plain.ensures) left.1 refl refl, length-append c3.code (put c.args.spot Op.Nop none ∷ []), length-append c4 right))
+    c.in_err-expression-2.ensures
+
+pub conditional-returns-in_err-put_plain-2 : goal.conditional-returns-in_err-put_plain-2
+conditional-returns-in_err-put_plain-2 t c =
+    let e0 = c.args.self.now in
+    let a = scheme.expression_code e0.locals c.args.a.now in
+    let test = scheme.expression_code e0.locals c.args.test.now in
+    let b = scheme.expression_code e0.locals c.args.b.now in
+    let c2 = c.put_plain.new.self in
+    let same = ap frame_of c.in_ok-put_plain.ensures ∙ ap frame_of c.in_ok-expression.ensures in
+    let part = λ (k : scheme.Locals). scheme.expression_code k c.args.a.now c.args.spot in
+    let c3 = c.expression-2.new.self in
+    let left = step part (frame_of e0) c2 c3 same c.in_ok-expression-2.ensures in
+    let c4 = c3.code ++ (put c.args.spot Op.Nop none ∷ []) in
+    let right = b c.args.spot (length c4) in
+    stop_one _ _ e0 _ c3 _ _ _ c.from_residual-in_err-put_plain-2.ensures.1 left.0
+    (omega (arith, conditional_size a test b c.args.spot e0.code c.expression.new.self.code c2.code c3.code c4 (c4 ++ right) _ _ (ap code_of c.in_ok-expression.ensures) (ap code_of c.in_ok-put_plain.ensures) left.1 refl refl, length-append c3.code (put c.args.spot Op.Nop none ∷ []), length-append c4 right))
+    c.in_err-put_plain-2.ensures
+
+pub conditional-returns-in_err-expression-3 : goal.conditional-returns-in_err-expression-3
+conditional-returns-in_err-expression-3 t c =
+    let e0 = c.args.self.now in
+    let a = scheme.expression_code e0.locals c.args.a.now in
+    let test = scheme.expression_code e0.locals c.args.test.now in
+    let b = scheme.expression_code e0.locals c.args.b.now in
+    let c2 = c.put_plain.new.self in
+    let same = ap frame_of c.in_ok-put_plain.ensures ∙ ap frame_of c.in_ok-expression.ensures in
+    let part = λ (k : scheme.Locals). scheme.expression_code k c.args.a.now c.args.spot in
+    let c3 = c.expression-2.new.self in
+    let left = step part (frame_of e0) c2 c3 same c.in_ok-expression-2.ensures in
+    let c4 = c.put_plain-2.new.self in
+    let last = λ (k : scheme.Locals). scheme.expression_code k c.args.b.now c.args.spot in
+    let same4 = ap frame_of c.in_ok-put_plain-2.ensures ∙ left.0 in
+    let right = step last (frame_of e0) c4 (emitted c4 (last c4.locals)) same4 refl in
+    stop _ _ e0 _ c4 _ (last c4.locals) _ c.from_residual-in_err-expression-3.ensures.1 same4
+    (omega (arith, conditional_size a test b c.args.spot e0.code c.expression.new.self.code c2.code c3.code c4.code (emitted c4 (last c4.locals)).code _ _ (ap code_of c.in_ok-expression.ensures) (ap code_of c.in_ok-put_plain.ensures) left.1 (ap code_of c.in_ok-put_plain-2.ensures) right.1))
+    c.in_err-expression-3.ensures
