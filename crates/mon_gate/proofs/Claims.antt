@@ -7,7 +7,7 @@ use Rattle.mon_words.specs.Standing.{Right}
 use Rattle.mon_words.specs.declared.history.Mark.{Mark}
 use Rattle.mon_words.proofs.Histories.{still-zero, upto_front, offs_front}
 use Rattle.mon_gate.specs.Sums.{total, only, once_below}
-use Rattle.mon_gate.specs.Places.{count_place, word_place, claim_word, count_at, word_at}
+use Rattle.mon_gate.specs.Places.{word_place, claim_word, count_at, word_at}
 use Rattle.mon_gate.specs.Rule.{inside, works, numbered, leads, asks, stops, alive, ended_as, has, claims, first_board, Leads, SeatOk, Kept}
 use Rattle.mon_words.specs.Tallies.{no_tally}
 use Rattle.mon_gate.specs.Plays.{Sat, claimed}

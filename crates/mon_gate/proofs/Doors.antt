@@ -1,5 +1,5 @@
 -- Entering, leaving, polling, asking and observing: the steps on the gate word that make no mark.
-use Rattle.std.proofs.Common.{ℕ, ◌+◌, ◌-◌, ◌*◌, ◌/◌, ◌%◌, ◌^◌, List, [], length, sym, refl, ap, ◌∙◌, subst, arith, bit_or, le-ltb, lt-ltb, leb, true, false, ◌≡◌}
+use Rattle.std.proofs.Common.{ℕ, ◌+◌, ◌-◌, ◌*◌, ◌/◌, ◌%◌, ◌^◌, List, [], length, sym, refl, ap, ◌∙◌, subst, arith, bit_or, le-ltb, lt-ltb, leb, ◌≡◌}
 use Rattle.std.proofs.lemmas.Nat.Bits.{and_pow}
 use Rattle.std.specs.Int.Bits.{or_add_and}
 use mathlib.Core.Logic.{dite}
@@ -15,7 +15,7 @@ use Rattle.mon_words.specs.declared.history.Mark.{Mark}
 use Rattle.mon_words.specs.declared.history.Written.{Written}
 use Rattle.mon_words.proofs.Histories.{begins_all, still-whole}
 use Rattle.mon_gate.specs.Sums.{total}
-use Rattle.mon_gate.specs.Places.{gate_word, word_at, counts_attached}
+use Rattle.mon_gate.specs.Places.{gate_word, word_at}
 use Rattle.mon_gate.specs.Rule.{St, inside, works, numbered, leads, asks, stops, alive, first_board, SeatOk, Kept}
 use Rattle.mon_words.specs.Tallies.{polled_once, observed_once}
 use Rattle.mon_gate.specs.Plays.{Sat, turned, Goes, found_in, entered, looked, dropped, polled, asked, observed}

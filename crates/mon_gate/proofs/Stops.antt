@@ -16,7 +16,7 @@ use Rattle.mon_words.specs.declared.history.Mark.TheVariants.{Put}
 use Rattle.mon_words.proofs.Histories.{begins_all, begins_more, after-put, puts-put, offs-put, still-put, upto-put, based-put, placed-put}
 use Rattle.mon_words.proofs.Standing.{after-bases, same_length, same_base, bases_from, overlay-size, right_stands, right_base, table_at, some_count}
 use Rattle.mon_gate.specs.Sums.{total}
-use Rattle.mon_gate.specs.Places.{word_number, location_place, count_place, word_place, gate_word, claim_word, count_at, word_at}
+use Rattle.mon_gate.specs.Places.{word_number, location_place, word_place, gate_word, claim_word, count_at, word_at}
 use Rattle.mon_gate.specs.Rule.{St, inside, works, numbered, leads, asks, stops, alive, first_board, first_bases, Done, Leads, SeatOk, EachSeat, Counted, Kept}
 use Rattle.mon_words.specs.Tallies.{read_at, rewritten_once}
 use Rattle.mon_words.specs.declared.tally.Tally.{Tally}

@@ -19,7 +19,7 @@ use Rattle.mon_words.proofs.Histories.{begins_all, begins_more, after-off, puts-
 use Rattle.mon_words.proofs.Clearing.{apart}
 use Rattle.mon_words.proofs.Standing.{after-bases, same_length, clear_stands, clear_stands_else, normal_stands}
 use Rattle.mon_gate.specs.Sums.{total}
-use Rattle.mon_gate.specs.Places.{word_number, location_place, count_place, word_place, claim_word, count_at, word_at}
+use Rattle.mon_gate.specs.Places.{word_number, location_place, word_place, claim_word, count_at, word_at}
 use Rattle.mon_gate.specs.Rule.{St, works, numbered, leads, stops, alive, first_board, first_bases, Leads, Kept}
 use Rattle.mon_words.specs.Tallies.{loaded_at, loaded_global, loaded_callbacks, disabled_once, tried}
 use Rattle.mon_gate.specs.Plays.{Sat, Adds, loaded, found_global, found_callbacks, disabled, retired}

@@ -6,12 +6,12 @@ use lib.ListN.{get_elem?}
 use Rattle.atomic_table.specs.Table.{Me, Step}
 use Rattle.mon_words.specs.Words.{Shows, before_locations, mask_of, normal, stop_bit}
 use Rattle.mon_words.specs.History.{cell_at, after, offs, puts, Begins, Still, UpTo, Placed, HasBases, base_in}
-use Rattle.mon_words.specs.Standing.{Stands, overlay, noted_of, count_of, table}
+use Rattle.mon_words.specs.Standing.{overlay, noted_of, count_of, table}
 use Rattle.mon_words.specs.Tallies.{no_tally, loaded_at, loaded_global, loaded_callbacks, disabled_once, tried, polled_once, entered_once, observed_once, read_at, rewritten_once}
 use Rattle.mon_words.specs.declared.history.Board.{Board}
 use Rattle.mon_words.specs.declared.history.Mark.{Mark}
 use Rattle.mon_words.specs.declared.history.Mark.TheVariants.{Off, Put}
-use Rattle.mon_gate.specs.Places.{gate_place, claim_place, count_place, count_number, word_place, word_number, entry_word, poll_word, observed_words, counts_attached}
+use Rattle.mon_gate.specs.Places.{count_number, word_place, word_number, entry_word, poll_word, observed_words, counts_attached}
 use Rattle.mon_gate.specs.Rule.{numbered, leads}
 use Rattle.mon_gate.specs.declared.view.View.{View}
 use Rattle.mon_gate.specs.declared.view.Ended.{Ended}
