@@ -1,12 +1,12 @@
 -- The items of a value that are counted, and what is left of them.
 use Rattle.std.proofs.Common.{◌≡◌, ℕ, zero, suc, ◌<◌, ◌≤◌, List, [], ◌∷◌, length, drop, refl, sym, ap, ◌∙◌, arith}
-use Rattle.std.specs.Prelude.{Option, Some, None, slice_get}
+use Rattle.std.specs.Prelude.{Option, Some, None, slice_get, ℤ, MatchOption}
 use Rattle.std.proofs.lemmas.List.{drop_all}
 use Rattle.std.proofs.Math.Seq.{drop-nil}
-use Rattle.mon_values.specs.declared.value.Value.{Value}
+use Rattle.mon_values.specs.declared.value.Value.{Value, Int}
 use Rattle.mon_values.specs.declared.value.Value.TheVariants.{None as NoneValue}
 use Rattle.mon_values.specs.declared.value.Value.TheViews.{outs-None}
-use Rattle.mon_frames.specs.Items.{items_of, items_at, or_none, count_of}
+use Rattle.mon_frames.specs.Items.{items_of, items_at, or_none, count_of, integers_of, top_integers}
 
 pub counted_some : (items : Option (List Value)) (count : ℕ) → count_of items ≡ Some count → Some (or_none items) ≡ items
 counted_some None count e = absurd cc
@@ -38,3 +38,14 @@ none_of_none = ap (λ v. or_none (items_at v)) outs-None
 
 pub none_dropped : (place : ℕ) → drop place (or_none (items_of NoneValue)) ≡ []
 none_dropped place = ap (λ l. drop place l) none_of_none ∙ drop-nil place
+
+-- the topmost two, as integers
+pub few_integers : (stack : List Value) → length stack < 2 → top_integers stack ≡ None
+few_integers [] h = refl
+few_integers (b ∷ []) h = refl
+few_integers (b ∷ a ∷ rest) h = absurd (omega arith)
+
+pub on_top : (r : Option (ℤ × ℤ)) (stack : List Value) (a b : Value) → stack ≡ b ∷ a ∷ drop 2 stack → MatchOption r (integers_of a b ≡ None) (λ two. (a ≡ Int two.0) × (b ≡ Int two.1))
+    → MatchOption r (top_integers stack ≡ None) (λ two. stack ≡ Int two.1 ∷ Int two.0 ∷ drop 2 stack)
+on_top None stack a b e h = ap top_integers e ∙ h
+on_top (Some two) stack a b e h = e ∙ ap (λ (v : Value). v ∷ a ∷ drop 2 stack) h.1 ∙ ap (λ (v : Value). Int two.1 ∷ v ∷ drop 2 stack) h.0

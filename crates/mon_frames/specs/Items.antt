@@ -42,3 +42,22 @@ lowest count stack = drop (length stack - count) stack
 abbrev pub bound : {A : Type 0} → Option (Option A) → Option A
 bound None = None
 bound (Some local) = local
+
+abbrev pub integer_at : Value-F Value Exc → Option ℤ
+integer_at (Value-F.Int n) = Some n
+integer_at _ = None
+
+abbrev pub both : Option ℤ → Option ℤ → Option (ℤ × ℤ)
+both None b = None
+both (Some a) None = None
+both (Some a) (Some b) = Some (a, b)
+
+-- two values as integers, where both are some
+abbrev pub integers_of : Value → Value → Option (ℤ × ℤ)
+integers_of a b = both (integer_at (out-Value a)) (integer_at (out-Value b))
+
+-- the topmost two of a stack, the lower first, where both are integers
+abbrev pub top_integers : List Value → Option (ℤ × ℤ)
+top_integers [] = None
+top_integers (b ∷ []) = None
+top_integers (b ∷ a ∷ rest) = integers_of a b

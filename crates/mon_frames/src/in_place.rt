@@ -2,11 +2,20 @@
 
 ghost use Rattle.std.specs.Prelude.{◌≡◌, ◌≤◌, ◌∷◌, length, drop, true, false, Some, None, slice_get, MatchOption, IfOk};
 ghost use Rattle.mon_values.specs.declared.value.Value as item;
-ghost use Rattle.mon_frames.specs.Items.{bound};
+ghost use Rattle.mon_frames.specs.Items.{bound, integers_of, top_integers};
 
 use crate::frame::{Locals, Operands};
 use mon_values::value::Value;
 use std::alloc::AllocError;
+
+fn two_integers(a: &Value, b: &Value) -> Option<(i64, i64)>
+    ensures { MatchOption result (integers_of a.now b.now ≡ None) (λ two. (a.now ≡ item.Int two.0) × (b.now ≡ item.Int two.1)) }
+{
+    match (a, b) {
+        (Value::Int(a), Value::Int(b)) => Some((*a, *b)),
+        _ => None,
+    }
+}
 
 impl Operands {
     /// Puts a value on top where there is room for it; whether there was.
@@ -23,17 +32,15 @@ impl Operands {
     }
 
     /// The topmost two values, the lower first, where both are integers.
+    #[tactic(auto, using(crate::proofs::Counting::few_integers, crate::proofs::Counting::on_top))]
     pub fn integers(&self) -> Option<(i64, i64)>
-        ensures { MatchOption result (Unit {0}) (λ two. self.now ≡ item.Int two.1 ∷ item.Int two.0 ∷ drop 2 self.now) }
+        ensures { MatchOption result (top_integers self.now ≡ None) (λ two. self.now ≡ item.Int two.1 ∷ item.Int two.0 ∷ drop 2 self.now) }
     {
         let items = self.items.as_slice();
         if items.len() < 2 {
             return None;
         }
-        match (&items[items.len() - 2], &items[items.len() - 1]) {
-            (Value::Int(a), Value::Int(b)) => Some((*a, *b)),
-            _ => None,
-        }
+        two_integers(&items[items.len() - 2], &items[items.len() - 1])
     }
 
     /// Puts a value in the place of the topmost two.
