@@ -1,11 +1,11 @@
-use Rattle.std.proofs.Common.{◌≡◌, ◌+◌, [], ◌∷◌, ◌++◌, ◌∙◌, List, length, ap, sym, refl, arith, append-nil}
+use Rattle.std.proofs.Common.{◌≡◌, [], ◌∷◌, ◌∙◌, List, length, ap, sym, refl, append-nil}
 use Rattle.mon_compile.specs.declared.assembly.Instruction.{Instruction}
-use Rattle.mon_compile.specs.declared.assembly.Label.TheVariants.{At, EndOf, HandlerOf}
+use Rattle.mon_compile.specs.declared.assembly.Label.TheVariants.{HandlerOf}
 use Rattle.mon_compile.specs.declared.surroundings.Surroundings.TheOpen.{Surroundings-F}
 use Rattle.mon_compile.specs.declared.surroundings.Surroundings.TheFolds.{fold-roll-Surroundings}
 use Rattle.mon_compile.specs.declared.surroundings.Surroundings.TheViews as view
-use Rattle.mon_compile.specs.Contexts.{Context, While, For, Try, Except, ExceptAs, left_by_return, left_by_break}
-use Rattle.mon_compile.specs.Open.{open_step, open_context, clause_entry}
+use Rattle.mon_compile.specs.Contexts.{Context, Try, Except, ExceptAs, left_by_break}
+use Rattle.mon_compile.specs.Open.{open_step, open_context}
 use Rattle.mon_compile.specs.Statements as scheme
 use Rattle.mon_compile.proofs.Emissions.{frame_of, code_of, emits_as, left_more}
 use Rattle.mon_compile.proofs.emitter.Emitter.+leave_loop.Goals as goal

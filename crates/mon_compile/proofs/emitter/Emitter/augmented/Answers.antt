@@ -1,4 +1,4 @@
-use Rattle.std.proofs.Common.{ℕ, length, ◌+◌, [], ◌∷◌, ◌∙◌, ap, refl, arith}
+use Rattle.std.proofs.Common.{◌∙◌, ap, refl, arith}
 use Rattle.mon_events.specs.declared.op.Op.{Op}
 use Rattle.mon_compile.specs.declared.assembly.Argument.TheVariants.{Number}
 use Rattle.mon_compile.specs.Contexts.{put, above}
