@@ -3,7 +3,7 @@ use Rattle.std.specs.Prelude.{ℕ, List}
 use Rattle.mon_values.specs.declared.value.Value.{Value}
 use Rattle.mon_code.specs.declared.program.Code.{Code}
 use Rattle.mon_code.specs.Programs.{Parts}
-use Rattle.mon_recorders.specs.Happenings.{Happening}
+use Rattle.mon_recorders.specs.declared.happening.Happening.{Happening}
 use Rattle.mon_machine.specs.State.{State, start}
 use Rattle.mon_machine.specs.Step.{step}
 use Rattle.mon_machine.specs.Run.{after_steps}
