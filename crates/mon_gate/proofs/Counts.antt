@@ -14,12 +14,13 @@ use Rattle.mon_words.specs.declared.history.Mark.{Mark}
 use Rattle.mon_words.specs.declared.history.Noted.{Noted}
 use Rattle.mon_words.proofs.Histories.{upto-more}
 use Rattle.mon_words.proofs.Standing.{noted_there}
-use Rattle.mon_gate.specs.Rule.{works, numbered, leads, stops, alive, count_place, word_place, claim_word, count_at, first_board, Leads, SeatOk, Counted, Kept}
+use Rattle.mon_gate.specs.Places.{count_number, count_place, word_place, claim_word, count_at}
+use Rattle.mon_gate.specs.Rule.{works, numbered, leads, stops, alive, first_board, Leads, SeatOk, Counted, Kept}
 use Rattle.mon_gate.specs.Plays.{Sat, counted, noted}
 use Rattle.mon_gate.specs.declared.view.View.{View}
 use Rattle.mon_gate.specs.declared.view.Plan.{Plan}
 use Rattle.mon_gate.specs.declared.view.Phase.TheVariants.{Attached, Stopped}
-use Rattle.mon_gate.proofs.Frames.{has_mine, has_low, has_apart, Stays, seat_frame, longest_set, step_on, own_apart, not_stopped}
+use Rattle.mon_gate.proofs.Frames.{has_mine, has_low, has_apart, Stays, seat_frame, longest_set, step_on, own_apart, not_stopped, count_stays}
 
 -- a count
 pub stores : (about : Plan) (n id i new : ℕ) (m : Sat) → m.0.phase ≡ Attached → i ≡ count_place m.0.number → m.0.stored ≤ new
@@ -29,7 +30,7 @@ stores about n id i new m is place more s r long at fits =
     let ok = r.seats id v at in let p₁ : numbered v.phase ≡ 1 = ap numbered is in let p₂ : leads v.phase ≡ 0 = ap leads is in let p₃ : works v.phase ≡ 1 = ap works is in let p₄ : stops v.phase ≡ 0 = ap stops is in
     let o = ok.works (omega arith) in let wide = r.wide in let low = o.low in let counts = o.count in
     let now : count_at ws t ≡ new = subst (λ (z : ℕ). get_or (set s.words z new) (count_place t) 0 ≡ new) (sym place) (get_or-set_same s.words (count_place t) new 0 (omega arith)) in
-    let else : (z : ℕ) → t ≢ z → count_at ws z ≡ count_at s.words z = λ z ne. get_or-set_other s.words i (count_place z) new 0 (λ e. ne (omega arith)) in
+    let else : (z : ℕ) → t ≢ z → count_at ws z ≡ count_at s.words z = λ z ne. count_stays s.words i new z (λ e. ne (omega arith)) in
     let one-stays : claim_word ws ≡ claim_word s.words = get_or-set_other s.words i 1 new 0 (λ e. absurd (omega arith)) in
     let stays : (z : ℕ) → t ≢ z → Stays log log s.words ws z = λ z ne. record { count = else z ne; marks = refl; still = λ a c e q. q; grow = λ xs b. b } in
     let w : View = record v { stored = new } in let mine = has_low about.threads s id v t r.numbers at (has_mine v (omega arith)) in (
@@ -44,7 +45,7 @@ stores about n id i new m is place more s r long at fits =
                 (λ e. subst (λ (q : ℕ). UpTo z q log) (sym (ap (λ (p : ℕ). count_at ws p) (sym e) ∙ now)) (upto-more z (count_at s.words z) new log (r.counts.high z a) (let c : count_at s.words z ≡ v.stored = ap (λ (p : ℕ). count_at s.words p) (sym e) ∙ counts in omega arith)))
                 (λ ne. subst (λ (q : ℕ). UpTo z q log) (sym (else z ne)) (r.counts.high z a));
           }
-          r.based
+          r.based r.placed
           record {
             told = ok.told;
             begins = ok.begins;
@@ -76,14 +77,14 @@ pub noted_count : (log : List Mark) (first : Board) (threads : ℕ) (ws : List �
 noted_count log first threads ws v x c o e = let h = noted_there v.noted x c e in sym h.4 ∙ (sym (o.noted h.0 h.1 h.2).1 ∙ ap (λ (z : ℕ). count_at ws z) h.3)
 
 -- a count read while the world is stopped
-pub notes : (about : Plan) (n id i : ℕ) (m : Sat) → m.0.phase ≡ Stopped → 2 ≤ i → i < 2 + m.0.threads → Allows (Kept about) n id m i (λ y. y) (noted (step n i 0 0 none) m)
+pub notes : (about : Plan) (n id i : ℕ) (m : Sat) → m.0.phase ≡ Stopped → count_place 0 ≤ i → i < count_place m.0.threads → Allows (Kept about) n id m i (λ y. y) (noted (step n i 0 0 none) m)
 notes about n id i m is least most s r long at fits =
     let x : ℕ = get_or s.words i 0 in let v = m.0 in let log : List Mark = r.log in let first : Board = first_board about in let same-words : set s.words i x ≡ s.words = set-get_or s.words i 0 in
     let p₂ : leads v.phase ≡ 1 = ap leads is in let p₃ : stops v.phase ≡ 1 = ap stops is in let p₅ : numbered v.phase ≡ 0 = ap numbered is in
     let ok = r.seats id v at in let o = ok.leads (omega arith) in let told = ok.told (omega (arith, ap alive is)) in let t₀ = told.threads_are in
-    let p : Noted = record { number = i - 2; count = x } in
+    let p : Noted = record { number = count_number i; count = x } in
     let w : View = record v { noted = p ∷ v.noted } in
-    let here-is : count_at s.words (i - 2) ≡ x = ap (λ (z : ℕ). get_or s.words z 0) (omega arith) in
+    let here-is : count_at s.words (count_number i) ≡ x = ap (λ (z : ℕ). get_or s.words z 0) (omega arith) in
     let new : (j : ℕ) (q : Noted) → get_elem? (p ∷ v.noted) j ≡ some q → (q.number < about.threads) × (count_at s.words q.number ≡ q.count) = notes_new about.threads s.words p v.noted (omega arith) here-is o.noted in
     let here : SeatOk about log s.words w = record {
       told = ok.told;
@@ -96,13 +97,13 @@ notes about n id i m is least most s r long at fits =
       keeps,
       tt,
       step_on about s r log i id x m w at (omega arith) record { phase = refl; number = refl; ended = refl; tickets = refl } refl
-          (subst (Counted about.threads log) (sym same-words) r.counts) r.based
+          (subst (Counted about.threads log) (sym same-words) r.counts) r.based r.placed
           (subst (λ (ws : List ℕ). SeatOk about log ws w) (sym same-words) here)
           (λ j u _ _ k. subst (λ (ws : List ℕ). SeatOk about log ws u) (sym same-words) k)
           (longest_set log s.views id v w at r.longest (λ e. e)),
       (
-        (λ c e. sym here-is ∙ sym (noted_count log first about.threads s.words v (i - 2) c o e)),
-        subst (λ (l : List Mark). UpTo (i - 2) x l) (sym (o.all (omega arith))) (subst (λ (z : ℕ). UpTo (i - 2) z log) here-is (r.counts.high (i - 2) (omega arith))),
+        (λ c e. sym here-is ∙ sym (noted_count log first about.threads s.words v (count_number i) c o e)),
+        subst (λ (l : List Mark). UpTo (count_number i) x l) (sym (o.all (omega arith))) (subst (λ (z : ℕ). UpTo (count_number i) z log) here-is (r.counts.high (count_number i) (omega arith))),
         refl,
       ),
     )

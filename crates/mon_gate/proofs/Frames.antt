@@ -8,14 +8,16 @@ use lib.ListN.{get_elem?}
 use Rattle.atomic_table.specs.Table.{keeps, stepped}
 use Rattle.atomic_table.proofs.Lists.{at_set, set_here, set_else}
 use Rattle.mon_words.specs.Words.{stop_bit}
-use Rattle.mon_words.specs.History.{after, offs, puts, Begins, Still, UpTo, HasBases, Based, base_in}
+use Rattle.mon_words.specs.History.{after, offs, puts, Begins, Still, UpTo, Placed, HasBases, Based, base_in}
 use Rattle.mon_words.specs.Standing.{Right}
 use Rattle.mon_words.specs.declared.history.Board.{Board}
 use Rattle.mon_words.specs.declared.history.Mark.{Mark}
+use Rattle.mon_words.specs.declared.tally.Tally.{Tally}
 use Rattle.mon_words.proofs.Histories.{still-quiet}
 use Rattle.mon_words.proofs.Standing.{after-bases}
 use Rattle.mon_gate.specs.Sums.{total, only, once_below}
-use Rattle.mon_gate.specs.Rule.{St, inside, works, numbered, leads, asks, stops, alive, ended_as, has, claims, gate_word, claim_word, count_at, first_board, first_bases, Gated, Numbered, Works, Leads, SeatOk, EachSeat, Counted, Kept}
+use Rattle.mon_gate.specs.Places.{gate_word, claim_word, count_at, count_place}
+use Rattle.mon_gate.specs.Rule.{St, inside, works, numbered, leads, asks, stops, alive, ended_as, has, claims, first_board, first_bases, Gated, Numbered, Works, Leads, SeatOk, EachSeat, Counted, Kept}
 use Rattle.mon_gate.specs.Plays.{Sat}
 use Rattle.mon_gate.specs.Laws.{StoppedIsAlone}
 use Rattle.mon_gate.specs.declared.view.View.{View}
@@ -112,6 +114,10 @@ bounds about s r =
       stop = total_le stops_of asks_of (λ v. stops_le v.phase) s.views;
       idle = total_le works_of in_of (λ v. works_le v.phase) s.views;
     }
+
+-- a count stays
+pub count_stays : (ws : List ℕ) (i k x : ℕ) → count_place x ≢ i → count_at (set ws i k) x ≡ count_at ws x
+count_stays ws i k x ne = get_or-set_other ws i (count_place x) k 0 ne
 
 -- ---- numbers
 
@@ -228,6 +234,16 @@ longest_set log vs id v w at l keep = dite (ℕ_discrete l.0 id)
     (λ e. (id, w, set_here vs id w (at_length vs id v at), keep (ap (λ (x : View). x.seen) (some-injective v l.1 (sym at ∙ (ap (get_elem? vs) (sym e) ∙ l.2))) ∙ l.3)))
     (λ ne. (l.0, l.1, set_else vs id l.0 w ne ∙ l.2, l.3))
 
+-- the tally and the word found last are nothing to the rule
+pub retallied : (about : Plan) (log : List Mark) (ws : List ℕ) (v : View) (x : ℕ) (t : Tally) → SeatOk about log ws v → SeatOk about log ws (record v { found = x; tally = t })
+retallied about log ws v x t ok = record {
+  told = ok.told;
+  begins = ok.begins;
+  works = λ h. let o = ok.works h in record { low = o.low; marks = o.marks; count = o.count; all = o.all; still = o.still };
+  leads = λ h. let o = ok.leads h in record { marks = o.marks; all = o.all; noted = o.noted; right = o.right; clean = o.clean };
+  done = ok.done;
+}
+
 -- a step on word 0 that keeps the numbers and the history
 pub gate_step : (about : Plan) (s : St) (r : Kept about s) (id k : ℕ) (m : Sat) (w : View) → get_elem? s.views id ≡ some m.0
     → SameNumbers m.0 w → leads w.phase ≡ leads m.0.phase
@@ -250,6 +266,7 @@ gate_step about s r id k m w at n lead word calm seen mine = let v = m.0 in let 
       counts = counts_words about.threads r.log s.words ws (other_words s.words k) r.counts;
       first = r.first;
       based = r.based;
+      placed = r.placed;
       seats = each_set (SeatOk about r.log s.words) (SeatOk about r.log ws) s.views id w r.seats (seat_words about r.log s.words ws w (other_words s.words k) mine) (λ j u _ _ ok. seat_words about r.log s.words ws u (other_words s.words k) ok);
       longest = longest_set r.log s.views id v w at r.longest seen;
     }
@@ -257,12 +274,12 @@ gate_step about s r id k m w at n lead word calm seen mine = let v = m.0 in let 
 -- a step on another word than the first two, by which a seat learns
 pub step_on : (about : Plan) (s : St) (r : Kept about s) (log : List Mark) (i id k : ℕ) (m : Sat) (w : View) → get_elem? s.views id ≡ some m.0 → 1 < i
     → SameNumbers m.0 w → w.phase ≡ m.0.phase
-    → Counted about.threads log (set s.words i k) → Based (first_bases about) log
+    → Counted about.threads log (set s.words i k) → Based (first_bases about) log → Placed (length (first_board about).cells) log
     → SeatOk about log (set s.words i k) w
     → ((j : ℕ) (u : View) → j ≢ id → get_elem? s.views j ≡ some u → SeatOk about r.log s.words u → SeatOk about log (set s.words i k) u)
     → (j : ℕ) × (u : View) × (get_elem? (set s.views id w) j ≡ some u) × (u.seen ≡ log)
     → Kept about (stepped s i k id m.1 w keeps)
-step_on about s r log i id k m w at big n same counts based mine others long = let v = m.0 in
+step_on about s r log i id k m w at big n same counts based placed mine others long = let v = m.0 in
     let a = total-set in_of s.views id v w at in let b = total-set asks_of s.views id v w at in let c = total-set leads_of s.views id v w at in
     let d = total-set stops_of s.views id v w at in let e = total-set works_of s.views id v w at in
     let q₀ = ap inside same in let q₁ = ap asks same in let q₂ = ap leads same in let q₃ = ap stops same in let q₄ = ap works same in
@@ -277,6 +294,7 @@ step_on about s r log i id k m w at big n same counts based mine others long = l
       counts = counts;
       first = r.first;
       based = based;
+      placed = placed;
       seats = each_set (SeatOk about r.log s.words) (SeatOk about log (set s.words i k)) s.views id w r.seats mine others;
       longest = long;
     }

@@ -1,16 +1,19 @@
 -- Passes are cut in two and put together, and learn the whole history.
-use Rattle.std.proofs.Common.{◌≡◌, ℕ, zero, suc, ◌+◌, ◌*◌, ◌<◌, ◌≤◌, ◌≢◌, List, [], ◌∷◌, ◌++◌, length, set, sym, refl, ap, ◌∙◌, subst, ⊎_elim, ◌⊎◌, inl, inr, arith, cond, length-append, lt-ltb, le-ltb, ltb, Bool, true, false}
+use Rattle.std.proofs.Common.{◌≡◌, ℕ, zero, suc, ◌+◌, ◌*◌, ◌<◌, ◌≤◌, ◌≢◌, List, [], ◌∷◌, ◌++◌, length, drop, set, sym, refl, ap, ◌∙◌, subst, ⊎_elim, ◌⊎◌, inl, inr, arith, cond, length-append, lt-ltb, le-ltb, ltb, Bool, true, false}
+use mathlib.Core.List.{append-nil}
 use mathlib.Core.Logic.{dite}
 use mathlib.Core.Option.{none, some, some-injective, some-ne-none}
 use native.Mathlib.Decide.{ℕ_discrete, dec_le}
 use lib.ListN.{get_elem?}
 use Rattle.atomic_table.specs.Table.{step, keeps, Allows, Splits, Joins}
 use Rattle.atomic_table.proofs.Lists.{set_here, set_else, at_snoc, at_longer}
-use Rattle.mon_words.specs.History.{Begins}
+use Rattle.mon_words.specs.History.{Begins, Placed}
+use Rattle.mon_words.specs.declared.history.Board.{Board}
 use Rattle.mon_words.specs.declared.history.Mark.{Mark}
 use Rattle.mon_words.proofs.Histories.{begins_all, begins_whole, begins_length, still-whole, still-more}
 use Rattle.mon_gate.specs.Sums.{total, only, once_below}
-use Rattle.mon_gate.specs.Rule.{inside, works, numbered, leads, stops, alive, ended_as, has, claims, gate_word, claim_word, Done, SeatOk, Kept, spent}
+use Rattle.mon_gate.specs.Places.{gate_word, claim_word}
+use Rattle.mon_gate.specs.Rule.{inside, works, numbered, leads, stops, alive, ended_as, has, claims, Done, SeatOk, Kept, spent}
 use Rattle.mon_gate.specs.Plays.{Sat, turned, cut_left, cut_right, ended_of, closed, longer, joined, settled}
 use Rattle.mon_gate.specs.declared.view.View.{View}
 use Rattle.mon_gate.specs.declared.view.Ended.{Ended}
@@ -19,10 +22,6 @@ use Rattle.mon_gate.specs.declared.view.Phase.{Phase}
 use Rattle.mon_gate.specs.declared.view.Phase.TheVariants.{Plain, Out, Attached, Retreating, Idle, Asked, Stopped, Spent}
 use Rattle.mon_gate.proofs.Totals.{total-append, total-set, term_le, terms_le, only-same, only_at, below_yes, apart_below}
 use Rattle.mon_gate.proofs.Frames.{works_le, asks_le, stops_le, at_length, in_of, works_of, leads_of, asks_of, stops_of, tickets_of, each_set, longest_set, gate_step}
-
-pick : {A : Type 0} (P : A → Type 0) (b : Bool) (x y : A) → P x → P y → P (cond b x y)
-pick P true x y p q = p
-pick P false x y p q = q
 
 at_append : (xs ys : List Ended) (j : ℕ) (e : Ended) → get_elem? (xs ++ ys) j ≡ some e → (get_elem? xs j ≡ some e) ⊎ ((i : ℕ) × (get_elem? ys i ≡ some e))
 at_append [] ys j e h = inr (j, h)
@@ -110,25 +109,45 @@ splits about id v lives s r at =
       counts = r.counts;
       first = r.first;
       based = r.based;
+      placed = r.placed;
       seats = λ k u f. ⊎_elim
           (λ (t : get_elem? vs k ≡ some u). each_set (SeatOk about log s.words) (SeatOk about log s.words) s.views id l r.seats left-ok (λ _ _ _ _ h. h) k u t)
           (λ (t : q ≡ u). subst (SeatOk about log s.words) t right-ok) (at_snoc vs q u k f);
       longest = (long.0, long.1, at_longer vs (q ∷ []) long.0 long.1 long.2, long.3);
     }
 
+-- of two beginnings of one history the longer
+drop_front : (xs ys : List Mark) → length ys ≤ length xs → drop (length xs) ys ≡ []
+drop_front [] [] h = refl
+drop_front [] (y ∷ ys) h = absurd (omega arith)
+drop_front (x ∷ xs) [] h = refl
+drop_front (x ∷ xs) (y ∷ ys) h = drop_front xs ys (omega arith)
+
+-- where two begin one history, the shorter begins the longer
+shorter : (xs ys xm ym : List Mark) → xs ++ xm ≡ ys ++ ym → length xs ≤ length ys → xs ++ drop (length xs) ys ≡ ys
+shorter [] ys xm ym e h = refl
+shorter (x ∷ xs) [] xm ym e h = absurd (omega arith)
+shorter (x ∷ xs) (y ∷ ys) xm ym e h = let p : x ≡ y = cc in let q : xs ++ xm ≡ ys ++ ym = cc in let t = shorter xs ys xm ym q (omega arith) in λ i. p i ∷ t i
+
+longer_left : (xs ys : List Mark) → length ys ≤ length xs → longer xs ys ≡ xs
+longer_left xs ys h = ap (λ z. xs ++ z) (drop_front xs ys h) ∙ append-nil xs
+
+longer_right : (xs ys log : List Mark) → Begins xs log → Begins ys log → length xs ≤ length ys → longer xs ys ≡ ys
+longer_right xs ys log a b h = shorter xs ys a.more b.more (sym a.is ∙ b.is) h
+
 begins_longer : (xs ys log : List Mark) → Begins xs log → Begins ys log → Begins (longer xs ys) log
-begins_longer xs ys log a b = pick (λ (z : List Mark). Begins z log) (ltb (length xs) (length ys)) ys xs b a
+begins_longer xs ys log a b = dite (dec_le (length ys) (length xs))
+    (λ h. subst (λ (z : List Mark). Begins z log) (sym (longer_left xs ys h)) a)
+    (λ h. subst (λ (z : List Mark). Begins z log) (sym (longer_right xs ys log a b (omega arith))) b)
 
 -- where one of two is the whole, the longer is
 whole_longer : (xs ys log : List Mark) → Begins xs log → Begins ys log → (xs ≡ log) ⊎ (ys ≡ log) → longer xs ys ≡ log
 whole_longer xs ys log a b e = let p = begins_length xs log a in let q = begins_length ys log b in dite (dec_le (length ys) (length xs))
-    (λ h. ap (λ t. cond t ys xs) (le-ltb (length xs) (length ys) h) ∙ begins_whole xs log a (⊎_elim (λ (z : xs ≡ log). omega (arith, ap length z)) (λ (z : ys ≡ log). omega (arith, ap length z)) e))
-    (λ h. let l : length xs < length ys = omega arith in ap (λ t. cond t ys xs) (lt-ltb (length xs) (length ys) l) ∙ begins_whole ys log b (⊎_elim (λ (z : xs ≡ log). omega (arith, ap length z)) (λ (z : ys ≡ log). omega (arith, ap length z)) e))
+    (λ h. longer_left xs ys h ∙ begins_whole xs log a (⊎_elim (λ (z : xs ≡ log). omega (arith, ap length z)) (λ (z : ys ≡ log). omega (arith, ap length z)) e))
+    (λ h. longer_right xs ys log a b (omega arith) ∙ begins_whole ys log b (⊎_elim (λ (z : xs ≡ log). omega (arith, ap length z)) (λ (z : ys ≡ log). omega (arith, ap length z)) e))
 
 longer_le : (xs ys : List Mark) → length xs ≤ length (longer xs ys)
-longer_le xs ys = dite (dec_le (length ys) (length xs))
-    (λ h. omega (arith, ap (λ t. length (cond t ys xs)) (le-ltb (length xs) (length ys) h)))
-    (λ h. let l : length xs < length ys = omega arith in omega (arith, ap (λ t. length (cond t ys xs)) (lt-ltb (length xs) (length ys) l)))
+longer_le xs ys = omega (arith, length-append xs (drop (length xs) ys))
 
 pub joins : (about : Plan) (id : ℕ) (v : View) (other : ℕ) (u : View) → leads u.phase ≡ 0 → inside u.phase ≡ 0 → inside v.phase ≡ 0 → stops v.phase ≡ 0 → 0 < alive v.phase
     → Joins (Kept about) id v other u (joined v u) spent
@@ -162,6 +181,7 @@ joins about id v other u no-lead no-in out no-stop lives s r at apart-seats them
       counts = r.counts;
       first = r.first;
       based = r.based;
+      placed = r.placed;
       seats = each_set (SeatOk about log s.words) (SeatOk about log s.words) vs other spent first-step gone (λ _ _ _ _ h. h);
       longest = longest_join log s.views id other v u w at there apart-seats r.longest (λ e. whole_longer v.seen u.seen log ok.begins ok₂.begins e);
     }
@@ -218,16 +238,16 @@ settles about n id m lives out running s r long at fits =
           begins = ok.begins;
           changes = λ h. (ok.leads h).marks;
           goes = λ h. let o = ok.works h in record { begins = ok.begins; own = o.marks; still = o.still idle };
+          placed = subst (λ (f : Board). Placed (length f.cells) log) (sym told.first_is) r.placed;
           past = λ j e there. let d = ok.done j e there in let low = d.low in record { low = omega arith; marks = d.marks; begins = d.begins; still = d.still };
           apart = λ i j e f ne here there same. let y : ℕ = f.number in let t = term_le (has y) s.views id v at in let d = r.numbers.drawn y in let b = apart_below y (claim_word s.words) in
               ended_apart y v.ended (omega arith) i j e f ne here there same refl;
-          all = λ full y. dite (dec_le (claim_word s.words) y)
-              (λ h. inl (r.counts.none y h))
-              (λ h. let mine : total (has y) s.views ≡ has y v = no_other y s.views id v at (omega arith) in let d : once_below y (claim_word s.words) ≡ 1 = below_yes y (claim_word s.words) (omega arith) in let e = r.numbers.drawn y in
-              let all-claims = term_le claims s.views id v at in
+          each = λ full y low. let all-claims = term_le claims s.views id v at in
+              let mine : total (has y) s.views ≡ has y v = no_other y s.views id v at (omega arith) in let d : once_below y (claim_word s.words) ≡ 1 = below_yes y (claim_word s.words) (omega arith) in let e = r.numbers.drawn y in
               let none : numbered v.phase ≡ 0 = omega arith in
               let p : numbered v.phase * only y v.number ≡ 0 = ap (λ (z : ℕ). z * only y v.number) none ∙ omega arith in
-              inr (among y v.ended (omega arith)));
+              among y v.ended (omega arith);
+          others = λ full y high. let all-claims = term_le claims s.views id v at in r.counts.none y (omega arith);
         },
         refl,
       ),

@@ -7,7 +7,8 @@ use Rattle.mon_words.specs.Standing.{size, board_of, IsFirst, Stands}
 use Rattle.mon_words.specs.declared.history.Board.{Board}
 use Rattle.mon_words.proofs.Standing.{board-length, first_bases, first_stands}
 use Rattle.mon_gate.specs.Sums.{once_below}
-use Rattle.mon_gate.specs.Rule.{first_board, claim_word, SeatOk, Kept, starting}
+use Rattle.mon_gate.specs.Places.{board_place, claim_word}
+use Rattle.mon_gate.specs.Rule.{first_board, SeatOk, Kept, starting}
 use Rattle.mon_gate.specs.declared.view.View.{View}
 use Rattle.mon_gate.specs.declared.view.Plan.{Plan}
 use Rattle.mon_gate.proofs.Totals.{below_no}
@@ -29,18 +30,18 @@ pub zeros_length : (n : ℕ) (xs : List ℕ) → length (replicate n 0 ++ xs) �
 zeros_length zero xs = omega arith
 zeros_length (suc n) xs = omega (arith, zeros_length n xs)
 
-pub board_is : (about : Plan) (first : List ℕ) → about.words.value.items ≡ replicate (2 + about.threads) 0 ++ first → first_board about ≡ board_of first
-board_is about first e = ap (λ (z : List ℕ). board_of (drop (2 + about.threads) z)) e ∙ ap board_of (dropped (2 + about.threads) first)
+pub board_is : (about : Plan) (first : List ℕ) → about.words.value.items ≡ replicate (board_place about.threads) 0 ++ first → first_board about ≡ board_of first
+board_is about first e = ap (λ (z : List ℕ). board_of (drop (board_place about.threads) z)) e ∙ ap board_of (dropped (board_place about.threads) first)
 
 module _ (about : Plan) (ws : List ℕ) where
   only_one : (v : View) (k : ℕ) (u : View) → get_elem? (v ∷ []) k ≡ some u → SeatOk about [] ws v → SeatOk about [] ws u
   only_one v zero u e ok = subst (SeatOk about [] ws) (some-injective v u e) ok
   only_one v (suc k) u e ok = absurd (some-ne-none u (sym e))
 
-pub starts : (about : Plan) (first : List ℕ) → about.threads < 256 → about.words.value.items ≡ replicate (2 + about.threads) 0 ++ first → IsFirst first
-    → Kept about (opening (replicate (2 + about.threads) 0 ++ first) [] (starting about))
+pub starts : (about : Plan) (first : List ℕ) → about.threads < 256 → about.words.value.items ≡ replicate (board_place about.threads) 0 ++ first → IsFirst first
+    → Kept about (opening (replicate (board_place about.threads) 0 ++ first) [] (starting about))
 starts about first few is lawful =
-    let n : ℕ = 2 + about.threads in let ws : List ℕ = replicate n 0 ++ first in let board = board_is about first is in let v : View = starting about in
+    let n : ℕ = board_place about.threads in let ws : List ℕ = replicate n 0 ++ first in let board = board_is about first is in let v : View = starting about in
     let enough = lawful.long in
     let long : length (first_board about).cells ≡ length first - 7 = ap (λ (b : Board). length b.cells) board ∙ board-length first in
     let one : claim_word ws ≡ 0 = zeros n first 1 (omega arith) in
@@ -66,6 +67,7 @@ starts about first few is lawful =
       counts = record { fresh = λ x a b. zeros n first (2 + x) (omega arith); none = λ x a. refl; high = λ x a. tt };
       first = first_bases (drop n about.words.value.items) (let e : length (drop n about.words.value.items) ≡ length first = ap (λ (z : List ℕ). length (drop n z)) is ∙ ap length (dropped n first) in omega arith);
       based = tt;
+      placed = tt;
       seats = λ k u e. only_one about ws v k u e ok;
       longest = (0, v, refl, refl);
     }

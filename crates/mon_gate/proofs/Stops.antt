@@ -2,26 +2,30 @@
 use Rattle.std.proofs.Common.{◌≡◌, ℕ, suc, ◌+◌, ◌-◌, ◌*◌, ◌%◌, ◌^◌, ◌<◌, List, [], ◌∷◌, ◌++◌, map, length, get_or, set, sym, refl, ap, ◌∙◌, subst, arith, length-set, get_or-set_other, get_or-set_same, bit_and, true}
 use Rattle.std.specs.Prelude.{is_some}
 use Rattle.std.proofs.lemmas.Nat.{and_mask}
-use mathlib.Core.Option.{none, some-ne-none}
+use mathlib.Core.Option.{none, some, some-ne-none}
 use lib.Seq.{set-get_or}
-use Rattle.atomic_table.specs.Table.{step, keeps, Allows}
+use lib.ListN.{get_elem?}
+use Rattle.atomic_table.specs.Table.{step, keeps, stepped, Allows}
 use Rattle.atomic_table.proofs.Lists.{set_here}
-use Rattle.mon_words.specs.Words.{cell_of, Allowed, stop_bit}
-use Rattle.mon_words.specs.History.{cell_at, after, UpTo, HasBases, Based, base_in}
+use Rattle.mon_words.specs.Words.{cell_of, before_locations, Allowed, stop_bit}
+use Rattle.mon_words.specs.History.{cell_at, after, UpTo, Placed, HasBases, Based, base_in}
 use Rattle.mon_words.specs.Standing.{size, Stands, Fine, Right, overlay, noted_of, count_of, table}
 use Rattle.mon_words.specs.declared.history.Board.{Board}
 use Rattle.mon_words.specs.declared.history.Mark.{Mark}
 use Rattle.mon_words.specs.declared.history.Mark.TheVariants.{Put}
-use Rattle.mon_words.proofs.Histories.{begins_all, begins_more, after-put, puts-put, offs-put, still-put, upto-put, based-put}
+use Rattle.mon_words.proofs.Histories.{begins_all, begins_more, after-put, puts-put, offs-put, still-put, upto-put, based-put, placed-put}
 use Rattle.mon_words.proofs.Standing.{after-bases, same_length, same_base, bases_from, overlay-size, right_stands, right_base, table_at, some_count}
 use Rattle.mon_gate.specs.Sums.{total}
-use Rattle.mon_gate.specs.Rule.{inside, works, numbered, leads, asks, stops, alive, count_place, word_place, gate_word, claim_word, count_at, word_at, first_board, first_bases, Done, Leads, SeatOk, EachSeat, Counted, Kept}
-use Rattle.mon_gate.specs.Plays.{Sat, standing, read, stored, released}
+use Rattle.mon_gate.specs.Places.{word_number, location_place, count_place, word_place, gate_word, claim_word, count_at, word_at}
+use Rattle.mon_gate.specs.Rule.{St, inside, works, numbered, leads, asks, stops, alive, first_board, first_bases, Done, Leads, SeatOk, EachSeat, Counted, Kept}
+use Rattle.mon_words.specs.Tallies.{read_at, rewritten_once}
+use Rattle.mon_words.specs.declared.tally.Tally.{Tally}
+use Rattle.mon_gate.specs.Plays.{Sat, standing, read, stored, rewritten, released}
 use Rattle.mon_gate.specs.declared.view.View.{View}
 use Rattle.mon_gate.specs.declared.view.Plan.{Plan}
 use Rattle.mon_gate.specs.declared.view.Phase.TheVariants.{Idle, Stopped}
 use Rattle.mon_gate.proofs.Totals.{total-set, term_le}
-use Rattle.mon_gate.proofs.Frames.{at_length, in_of, works_of, leads_of, asks_of, stops_of, tickets_of, bounds, SameNumbers, numbers_stay, Stays, seat_frame, each_set, other_words, longest_set, step_on, one_leader, quiet_others}
+use Rattle.mon_gate.proofs.Frames.{at_length, in_of, works_of, leads_of, asks_of, stops_of, tickets_of, bounds, SameNumbers, numbers_stay, Stays, seat_frame, each_set, other_words, longest_set, step_on, one_leader, quiet_others, count_stays, retallied}
 use Rattle.mon_gate.proofs.Counts.{noted_count}
 
 -- the release of the world
@@ -43,10 +47,10 @@ releases about n id m is all-noted s r long at fits =
     let cs : Counted about.threads log s.words = subst (λ (l : List Mark). Counted about.threads l s.words) (sym whole) r.counts in
     let seats : EachSeat (SeatOk about log s.words) s.views = subst (λ (l : List Mark). EachSeat (SeatOk about l s.words) s.views) (sym whole) r.seats in
     let same : (z : ℕ) → get_or ws (suc z) 0 ≡ get_or s.words (suc z) 0 = other_words s.words y in
-    let count-stays : (z : ℕ) → count_at ws z ≡ count_at s.words z = λ z. get_or-set_other s.words 0 (count_place z) y 0 (λ e. absurd (omega arith)) in
+    let same-count : (z : ℕ) → count_at ws z ≡ count_at s.words z = λ z. count_stays s.words 0 y z (λ e. absurd (omega arith)) in
     let is-noted : (z : ℕ) → z < v.threads → count_of v.noted z ≡ count_at s.words z = λ z h. noted_count log first about.threads s.words v z (count_of v.noted z) lead (some_count v.noted z (all-noted z h)) in
     let stop : (z : ℕ) → z < about.threads → get_or counts z 0 ≡ count_at s.words z = λ z h. table_at v.threads (count_of v.noted) z (omega arith) ∙ is-noted z (omega arith) in
-    let stays : (z : ℕ) → z < about.threads → Stays log log' s.words ws z = λ z h. record { count = count-stays z; marks = offs-put z log counts board; still = λ a c e q. still-put a z c log counts board q (stop z h ∙ e); grow = λ xs b. begins_more xs log (Put counts board) b } in
+    let stays : (z : ℕ) → z < about.threads → Stays log log' s.words ws z = λ z h. record { count = same-count z; marks = offs-put z log counts board; still = λ a c e q. still-put a z c log counts board q (stop z h ∙ e); grow = λ xs b. begins_more xs log (Put counts board) b } in
     let started : Board = after first log in
     let bases : HasBases (first_bases about) started = after-bases (first_bases about) first log based r.first in
     let long-board : length started.cells ≡ length first.cells = same_length (first_bases about) started first bases r.first in
@@ -71,12 +75,13 @@ releases about n id m is all-noted s r long at fits =
         gated = record { word = omega arith; one = omega arith; calm = λ l. omega arith };
         numbers = numbers_stay about.threads s id ws v w r.numbers at same-numbers (same 0);
         counts = record {
-          fresh = λ z q h. count-stays z ∙ cs.fresh z (omega (arith, same 0)) h;
+          fresh = λ z q h. same-count z ∙ cs.fresh z (omega (arith, same 0)) h;
           none = λ z q. offs-put z log counts board ∙ cs.none z (omega (arith, same 0));
-          high = λ z h. subst (λ (q : ℕ). UpTo z q log') (sym (count-stays z)) (upto-put z (count_at s.words z) log counts board (cs.high z h) (omega (arith, stop z h)));
+          high = λ z h. subst (λ (q : ℕ). UpTo z q log') (sym (same-count z)) (upto-put z (count_at s.words z) log counts board (cs.high z h) (omega (arith, stop z h)));
         };
         first = r.first;
         based = based-put (first_bases about) log counts board based board-bases;
+        placed = placed-put (length first.cells) log counts board (subst (Placed (length first.cells)) (sym whole) r.placed);
         seats = each_set (SeatOk about log s.words) (SeatOk about log' ws) s.views id w seats
             record {
               told = λ _. ok.told (omega (arith, ap alive is));
@@ -101,14 +106,19 @@ releases about n id m is all-noted s r long at fits =
     )
 
 -- a word of the board is stored while the world is stopped
-pub rewrites : (about : Plan) (n id j i new : ℕ) (m : Sat) → m.0.phase ≡ Stopped → i ≡ word_place m.0.threads j → j < size m.0.first
-    → ((l : ℕ) → j ≡ 7 + l → ((cell_of new).base ≡ (cell_at (standing m.0) l).base) × Allowed (cell_of new) (new % 256))
-    → Allows (Kept about) n id m i (λ _. new) (λ _. stored (step n i new 0 none) m new)
-rewrites about n id j i new m is place low fine s r long at fits =
+abbrev with_word : View → ℕ → ℕ → Tally → View
+with_word v i new t = record v { written = record { place = word_number v.threads i; word = new } ∷ v.written; tally = t }
+
+abbrev Storable : ℕ → ℕ → View → Type 0
+Storable j new v = (l : ℕ) → j ≡ before_locations + l → ((cell_of new).base ≡ (cell_at (standing v) l).base) × Allowed (cell_of new) (new % 256)
+
+stored_step : (about : Plan) (s : St) (r : Kept about s) (id j i new : ℕ) (m : Sat) (t : Tally) → get_elem? s.views id ≡ some m.0 → m.0.phase ≡ Stopped → i ≡ word_place m.0.threads j → j < size m.0.first → Storable j new m.0
+    → Kept about (stepped s i new id m.1 (with_word m.0 i new t) keeps)
+stored_step about s r id j i new m t at is place low fine =
     let v = m.0 in let log : List Mark = r.log in let first : Board = first_board about in let ws : List ℕ = set s.words i new in let wide = r.wide in
     let p₂ : leads v.phase ≡ 1 = ap leads is in let p₃ : stops v.phase ≡ 1 = ap stops is in let p₅ : numbered v.phase ≡ 0 = ap numbered is in
     let ok = r.seats id v at in let o = ok.leads (omega arith) in let told = ok.told (omega (arith, ap alive is)) in let t₀ = told.threads_are in
-    let o₀ : ℕ = i - (2 + v.threads) in let at-j : o₀ ≡ j = omega arith in
+    let o₀ : ℕ = word_number v.threads i in let at-j : o₀ ≡ j = omega arith in
     let low' : j < size first = subst (λ (f : Board). j < size f) told.first_is low in
     let whole : v.seen ≡ log = o.all (omega arith) in
     let started : Board = after first log in
@@ -120,63 +130,66 @@ rewrites about n id j i new m is place low fine s r long at fits =
     let there : Stands (overlay started v.written) (7 + l) (word_at about.threads s.words (7 + l)) = right_stands first started v.written (7 + l) (word_at about.threads s.words (7 + l)) (omega arith) bases.six right in
     let old-base : (cell_at (overlay started v.written) l).base ≡ (cell_at first l).base = ap base_in (sym (there.location l refl).0) ∙ right_base first started v.written l (word_at about.threads s.words (7 + l)) (same_base (first_bases about) started first l bases r.first) right in
     (f.0 ∙ (ap (λ (b : Board). (cell_at b l).base) board-is ∙ old-base), f.1) in
-    let w : View = record v { written = record { place = o₀; word = new } ∷ v.written } in
-    let count-stays : (z : ℕ) → z < about.threads → count_at ws z ≡ count_at s.words z = λ z h. get_or-set_other s.words i (count_place z) new 0 (λ e. absurd (omega arith)) in
-    let one-stays : claim_word ws ≡ claim_word s.words = get_or-set_other s.words i 1 new 0 (λ e. absurd (omega arith)) in (
-      w,
-      keeps,
-      tt,
-      step_on about s r log i id new m w at (omega arith) record { phase = refl; number = refl; ended = refl; tickets = refl } refl
-          record {
-            fresh = λ z a b. count-stays z b ∙ r.counts.fresh z (omega arith) b;
-            none = λ z a. r.counts.none z (omega arith);
-            high = λ z a. subst (λ (q : ℕ). UpTo z q log) (sym (count-stays z a)) (r.counts.high z a);
-          }
-          r.based
-          record {
-            told = ok.told;
-            begins = ok.begins;
-            works = λ h. absurd (omega arith);
-            leads = λ _. record {
-              marks = o.marks;
-              all = o.all;
-              noted = λ a p f. let t = o.noted a p f in (t.0, count-stays p.number t.0 ∙ t.1);
-              right = λ a h. (
-                (λ e. let place-is : word_place about.threads a ≡ i = omega arith in let same : j ≡ a = sym at-j ∙ e in
-                    let now : word_at about.threads ws a ≡ new = ap (λ (z : ℕ). get_or ws z 0) place-is ∙ get_or-set_same s.words i new 0 (omega arith) in
-                    (now, subst (λ (z : ℕ × ℕ). Fine first z.0 z.1) (λ k. (same k, sym now k)) kept)),
-                (λ ne. subst (Right first (after first log) v.written a) (sym (get_or-set_other s.words i (word_place about.threads a) new 0 (λ e. ne (omega arith)))) (o.right a h)),
-              );
-              clean = λ h. absurd (omega arith);
-            };
-            done = λ a f g. let q = ok.done a f g in record { low = q.low; marks = q.marks; begins = q.begins; still = q.still; count = count-stays f.number q.low ∙ q.count };
-          }
-          (quiet_others about s r id i new v at p₂ (omega arith) count-stays)
-          (longest_set log s.views id v w at r.longest (λ e. e)),
-      refl,
-    )
+    let w : View = with_word v i new t in
+    let same-count : (z : ℕ) → z < about.threads → count_at ws z ≡ count_at s.words z = λ z h. count_stays s.words i new z (λ e. absurd (omega arith)) in
+    let one-stays : claim_word ws ≡ claim_word s.words = get_or-set_other s.words i 1 new 0 (λ e. absurd (omega arith)) in
+    step_on about s r log i id new m w at (omega arith) record { phase = refl; number = refl; ended = refl; tickets = refl } refl
+    record {
+      fresh = λ z a b. same-count z b ∙ r.counts.fresh z (omega arith) b;
+      none = λ z a. r.counts.none z (omega arith);
+      high = λ z a. subst (λ (q : ℕ). UpTo z q log) (sym (same-count z a)) (r.counts.high z a);
+    }
+    r.based r.placed
+    record {
+      told = ok.told;
+      begins = ok.begins;
+      works = λ h. absurd (omega arith);
+      leads = λ _. record {
+        marks = o.marks;
+        all = o.all;
+        noted = λ a p f. let t = o.noted a p f in (t.0, same-count p.number t.0 ∙ t.1);
+        right = λ a h. (
+          (λ e. let place-is : word_place about.threads a ≡ i = omega arith in let same : j ≡ a = sym at-j ∙ e in
+              let now : word_at about.threads ws a ≡ new = ap (λ (z : ℕ). get_or ws z 0) place-is ∙ get_or-set_same s.words i new 0 (omega arith) in
+              (now, subst (λ (z : ℕ × ℕ). Fine first z.0 z.1) (λ k. (same k, sym now k)) kept)),
+          (λ ne. subst (Right first (after first log) v.written a) (sym (get_or-set_other s.words i (word_place about.threads a) new 0 (λ e. ne (omega arith)))) (o.right a h)),
+        );
+        clean = λ h. absurd (omega arith);
+      };
+      done = λ a f g. let q = ok.done a f g in record { low = q.low; marks = q.marks; begins = q.begins; still = q.still; count = same-count f.number q.low ∙ q.count };
+    }
+    (quiet_others about s r id i new v at p₂ (omega arith) same-count)
+    (longest_set log s.views id v w at r.longest (λ e. e))
+
+pub stores : (about : Plan) (n id j i new : ℕ) (m : Sat) → m.0.phase ≡ Stopped → i ≡ word_place m.0.threads j → j < size m.0.first → Storable j new m.0 → Allows (Kept about) n id m i (λ _. new) (λ _. stored (step n i new 0 none) m new)
+stores about n id j i new m is place low fine s r long at fits = (with_word m.0 i new m.0.tally, keeps, tt, stored_step about s r id j i new m m.0.tally at is place low fine, refl)
+
+pub rewrites : (about : Plan) (n id j i new : ℕ) (m : Sat) → m.0.phase ≡ Stopped → i ≡ word_place m.0.threads j → j < size m.0.first → Storable j new m.0 → Allows (Kept about) n id m i (λ _. new) (λ _. rewritten (step n i new 0 none) m new)
+rewrites about n id j i new m is place low fine s r long at fits = let t : Tally = rewritten_once m.0.tally in
+    (with_word m.0 i new t, keeps, tt, stored_step about s r id j i new m t at is place low fine, refl)
 
 -- a word of the board is read while the world is stopped
-pub reads : (about : Plan) (n id j i : ℕ) (m : Sat) → m.0.phase ≡ Stopped → i ≡ word_place m.0.threads j → j < size m.0.first → Allows (Kept about) n id m i (λ y. y) (read (step n i 0 0 none) m)
-reads about n id j i m is place low s r long at fits =
-    let x : ℕ = get_or s.words i 0 in let v = m.0 in let log : List Mark = r.log in let first : Board = first_board about in let same-words : set s.words i x ≡ s.words = set-get_or s.words i 0 in
+pub reads : (about : Plan) (n id l i : ℕ) (m : Sat) → m.0.phase ≡ Stopped → i ≡ location_place m.0.threads l → l < length m.0.first.cells → Allows (Kept about) n id m i (λ y. y) (read (step n i 0 0 none) m)
+reads about n id l i m is place low s r long at fits =
+    let x : ℕ = get_or s.words i 0 in let v = m.0 in let j : ℕ = before_locations + l in let o₀ : ℕ = word_number v.threads i - before_locations in let w : View = record v { tally = read_at v.tally o₀ } in let log : List Mark = r.log in let first : Board = first_board about in let same-words : set s.words i x ≡ s.words = set-get_or s.words i 0 in
     let p₂ : leads v.phase ≡ 1 = ap leads is in let p₃ : stops v.phase ≡ 1 = ap stops is in
     let ok = r.seats id v at in let o = ok.leads (omega arith) in let told = ok.told (omega (arith, ap alive is)) in let t₀ = told.threads_are in
-    let low' : j < size first = subst (λ (f : Board). j < size f) told.first_is low in
+    let low' : l < length first.cells = subst (λ (f : Board). l < length f.cells) told.first_is low in
     let whole : v.seen ≡ log = o.all (omega arith) in
     let started : Board = after first log in
     let bases : HasBases (first_bases about) started = after-bases (first_bases about) first log r.based r.first in
     let long-board : length started.cells ≡ length first.cells = same_length (first_bases about) started first bases r.first in
     let board-is : standing v ≡ overlay started v.written = λ k. overlay (after (told.first_is k) (whole k)) v.written in
-    let there : Stands (overlay started v.written) j (word_at about.threads s.words j) = right_stands first started v.written j (word_at about.threads s.words j) (omega arith) bases.six (o.right j low') in
-    let at-j : i - (2 + v.threads) ≡ j = omega arith in let at-i : word_place about.threads j ≡ i = omega arith in (
-      v,
+    let there : Stands (overlay started v.written) j (word_at about.threads s.words j) = right_stands first started v.written j (word_at about.threads s.words j) (omega arith) bases.six (o.right j (omega arith)) in
+    let at-i : word_place about.threads j ≡ i = omega arith in
+    let stands : Stands (standing v) j (get_or s.words i 0) = subst (λ (z : Board × ℕ). Stands z.0 j (get_or s.words z.1 0)) (λ k. (sym board-is k, at-i k)) there in (
+      w,
       keeps,
       tt,
-      step_on about s r log i id x m v at (omega arith) record { phase = refl; number = refl; ended = refl; tickets = refl } refl
-          (subst (Counted about.threads log) (sym same-words) r.counts) r.based
-          (subst (λ (ws : List ℕ). SeatOk about log ws v) (sym same-words) ok)
+      step_on about s r log i id x m w at (omega arith) record { phase = refl; number = refl; ended = refl; tickets = refl } refl
+          (subst (Counted about.threads log) (sym same-words) r.counts) r.based r.placed
+          (subst (λ (ws : List ℕ). SeatOk about log ws w) (sym same-words) (retallied about log s.words v v.found w.tally ok))
           (λ a u _ _ k. subst (λ (ws : List ℕ). SeatOk about log ws u) (sym same-words) k)
-          (longest_set log s.views id v v at r.longest (λ e. e)),
-      (subst (λ (z : Board × ℕ × ℕ). Stands z.0 z.1 (get_or s.words z.2 0)) (λ k. (sym board-is k, sym at-j k, at-i k)) there, refl),
+          (longest_set log s.views id v w at r.longest (λ e. e)),
+      (stands.location o₀ (omega arith), refl),
     )

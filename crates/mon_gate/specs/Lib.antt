@@ -1,4 +1,5 @@
 pub mod Sums
+pub mod Places
 pub mod Rule
 pub mod Plays
 pub mod Seats

@@ -1,18 +1,18 @@
--- The rule of the gate's table. Word 0 is the gate word and word 1 counts the claimed numbers. Then come a step count for
--- each thread, and the words of the board: the global word, six callback words, and a word for each location.
+-- The rule of the gate's table.
 use Rattle.std.specs.Prelude.{◌≡◌, ℕ, ◌+◌, ◌*◌, ◌<◌, ◌≤◌, List, [], map, drop, length, slice_index}
 use mathlib.Core.Option.{some}
 use lib.ListN.{get_elem?}
 use Rattle.atomic_table.specs.Table.{State}
 use Rattle.mon_words.specs.Words.{stop_bit}
-use Rattle.mon_words.specs.History.{after, offs, puts, Begins, Still, UpTo, HasBases, Based, base_in}
+use Rattle.mon_words.specs.History.{after, offs, puts, Begins, Still, UpTo, Placed, HasBases, Based, base_in}
 use Rattle.mon_words.specs.Standing.{size, board_of, Right}
 use Rattle.mon_words.specs.declared.history.Board.{Board}
 use Rattle.mon_words.specs.declared.history.Mark.{Mark}
 use Rattle.mon_words.specs.declared.history.Noted.{Noted}
+use Rattle.mon_words.specs.Tallies.{no_tally}
 use Rattle.mon_gate.specs.Sums.{total, only, once_below}
+use Rattle.mon_gate.specs.Places.{board_place, gate_word, claim_word, count_at, word_at, word_place}
 use Rattle.mon_gate.specs.declared.view.View.{View}
-use Rattle.mon_gate.specs.declared.view.Tally.{Tally}
 use Rattle.mon_gate.specs.declared.view.Ended.{Ended}
 use Rattle.mon_gate.specs.declared.view.Plan.{Plan}
 use Rattle.mon_gate.specs.declared.view.Phase.{Phase}
@@ -71,28 +71,8 @@ has x v = numbered v.phase * only x v.number + total (ended_as x) v.ended
 abbrev pub claims : View → ℕ
 claims v = numbered v.phase + length v.ended
 
--- where a word lies
-abbrev pub count_place : ℕ → ℕ
-count_place t = 2 + t
-
-abbrev pub word_place : ℕ → ℕ → ℕ
-word_place threads j = 2 + threads + j
-
-abbrev pub gate_word : List ℕ → ℕ
-gate_word words = slice_index words 0
-
-abbrev pub claim_word : List ℕ → ℕ
-claim_word words = slice_index words 1
-
-abbrev pub count_at : List ℕ → ℕ → ℕ
-count_at words t = slice_index words (count_place t)
-
--- the word j of the board
-abbrev pub word_at : ℕ → List ℕ → ℕ → ℕ
-word_at threads words j = slice_index words (word_place threads j)
-
 abbrev pub first_board : Plan → Board
-first_board about = board_of (drop (2 + about.threads) about.words.value.items)
+first_board about = board_of (drop (board_place about.threads) about.words.value.items)
 
 -- the base opcodes of the locations
 abbrev pub first_bases : Plan → List ℕ
@@ -104,7 +84,7 @@ pub record Gated (s : St) : Type 0 where
   pub one : total (λ v. leads v.phase) s.views ≡ 1
   pub calm : 0 < total (λ v. stops v.phase) s.views → total (λ v. works v.phase) s.views ≡ 0
 
--- Each number below word 1 is one seat's, live or ended, and no other number is anyone's. What is claimed and the tickets
+-- Each number below the count of the claimed ones is one seat's, live or ended, and no other number is anyone's. What is claimed and the tickets
 -- left are the threads.
 pub record Numbered (threads : ℕ) (s : St) : Type 0 where
   pub drawn : (x : ℕ) → total (has x) s.views ≡ once_below x (claim_word s.words)
@@ -162,22 +142,20 @@ pub record Counted (threads : ℕ) (log : List Mark) (words : List ℕ) : Type 0
 -- a beginning.
 pub record Kept (about : Plan) (s : St) : Type 0 where
   pub log : List Mark
-  pub wide : length s.words ≡ 2 + about.threads + size (first_board about)
+  pub wide : length s.words ≡ word_place about.threads (size (first_board about))
   pub few : about.threads < 256
   pub gated : Gated s
   pub numbers : Numbered about.threads s
   pub counts : Counted about.threads log s.words
   pub first : HasBases (first_bases about) (first_board about)
   pub based : Based (first_bases about) log
+  pub placed : Placed (length (first_board about).cells) log
   pub seats : EachSeat (SeatOk about log s.words) s.views
   pub longest : (k : ℕ) × (v : View) × (get_elem? s.views k ≡ some v) × (v.seen ≡ log)
 
-abbrev pub no_tally : Tally
-no_tally = record { polls = 0; polled = 0; found = 0; retirements = [] }
-
 -- the view of the first pass when the gate is made
 abbrev pub first_view : ℕ → Board → View
-first_view threads first = record { phase = Idle; number = 0; stored = 0; tickets = threads; threads = threads; first = first; seen = []; mine = []; ended = []; noted = []; written = []; tally = no_tally }
+first_view threads first = record { phase = Idle; number = 0; stored = 0; tickets = threads; threads = threads; first = first; seen = []; mine = []; ended = []; noted = []; written = []; found = 0; tally = no_tally }
 
 abbrev pub starting : Plan → View
 starting about = first_view about.threads (first_board about)
@@ -187,4 +165,4 @@ no_board = record { global = 0; callbacks = []; cells = [] }
 
 -- what a seat is left with that was joined into another
 abbrev pub spent : View
-spent = record { phase = Spent; number = 0; stored = 0; tickets = 0; threads = 0; first = no_board; seen = []; mine = []; ended = []; noted = []; written = []; tally = no_tally }
+spent = record { phase = Spent; number = 0; stored = 0; tickets = 0; threads = 0; first = no_board; seen = []; mine = []; ended = []; noted = []; written = []; found = 0; tally = no_tally }

@@ -1,6 +1,7 @@
 //! The steps of the controller.
-use crate::gate::{Asked, BEFORE_LOCATIONS, COUNTS, GATE, Gate, Idle, NotYet, Pass, STOP, Stopped};
-use crate::play::{Ask, Note, Observe, Read, Release, Store};
+use crate::gate::{Asked, Gate, Idle, NotYet, Pass, STOP, Stopped};
+use crate::place::GATE;
+use crate::play::{Ask, Note, Observe, Read, Release, Rewrite, Store};
 
 // The low half of the gate word counts the attached threads.
 const COUNT_END: u64 = 1 << 32;
@@ -32,8 +33,10 @@ impl Idle {
 }
 
 impl Asked {
-    ghost use Rattle.std.specs.Prelude.{◌≡◌, ◌<◌, ◌%◌, [], IfOk, IfErr};
-    ghost use Rattle.mon_words.specs.History.{Begins, puts};
+    ghost use Rattle.std.specs.Prelude.{◌≡◌, [], false, length, IfOk, IfErr, IsTrue};
+    ghost use Rattle.mon_words.specs.History.{Begins, Placed, puts};
+    ghost use Rattle.mon_words.specs.Tallies.{observed_once};
+    ghost use Rattle.mon_gate.specs.Places.{counts_attached};
     ghost use Rattle.mon_gate.specs.Seats.{Belongs};
     ghost use Rattle.mon_gate.specs.declared.view.Phase.TheVariants.{Stopped as StoppedNow};
 
@@ -41,12 +44,13 @@ impl Asked {
     pub fn observe(self, gate: &Gate) -> Result<Stopped, NotYet>
         requires { Belongs self.chair gate.now }
         ensures gate { IfOk result (λ s. s.chair.table_id ≡ self.chair.table_id) }
-        ensures none { IfOk result (λ s. s.chair.me.0.tally.found % 4294967296 ≡ 0) }
+        ensures none { IfOk result (λ s. counts_attached s.chair.me.0.found ≡ false) }
         ensures seen { IfOk result (λ s. Begins self.chair.me.0.seen s.chair.me.0.seen × (puts s.chair.me.0.seen ≡ self.chair.me.0.mine)) }
-        ensures view { IfOk result (λ s. s.chair.me.0 ≡ record self.chair.me.0 { phase = StoppedNow; seen = s.chair.me.0.seen; noted = []; written = []; tally = record self.chair.me.0.tally { found = s.chair.me.0.tally.found } }) }
+        ensures placed { IfOk result (λ s. Placed (length self.chair.me.0.first.cells) s.chair.me.0.seen) }
+        ensures view { IfOk result (λ s. s.chair.me.0 ≡ record self.chair.me.0 { phase = StoppedNow; seen = s.chair.me.0.seen; noted = []; written = []; found = s.chair.me.0.found; tally = observed_once self.chair.me.0.tally }) }
         ensures still_gate { IfErr result (λ n. n.asked.chair.table_id ≡ self.chair.table_id) }
-        ensures some { IfErr result (λ n. 0 < n.word % 4294967296) }
-        ensures still_view { IfErr result (λ n. n.asked.chair.me.0 ≡ record self.chair.me.0 { tally = record self.chair.me.0.tally { found = n.word } }) }
+        ensures some { IfErr result (λ n. IsTrue (counts_attached n.word)) }
+        ensures still_view { IfErr result (λ n. n.asked.chair.me.0 ≡ record self.chair.me.0 { found = n.word; tally = observed_once self.chair.me.0.tally }) }
     {
         let Asked { mut chair } = self;
         let word = gate.table.shared.load::<Observe>(&mut chair, GATE);
@@ -60,7 +64,8 @@ impl Asked {
 
 impl Stopped {
     ghost use Rattle.std.specs.Prelude.{◌≡◌, ◌∷◌, ◌++◌, ◌<◌, ◌%◌, ◌+◌, [], ℕ, Some, length};
-    ghost use Rattle.mon_words.specs.Words.{cell_of, Allowed, Shows};
+    ghost use Rattle.mon_words.specs.Words.{cell_of, before_locations, Allowed, Shows};
+    ghost use Rattle.mon_words.specs.Tallies.{read_at, rewritten_once};
     ghost use Rattle.mon_words.specs.History.{cell_at, UpTo};
     ghost use Rattle.mon_words.specs.Standing.{noted_of, count_of};
     ghost use Rattle.mon_gate.specs.Plays.{standing, put_of};
@@ -72,11 +77,11 @@ impl Stopped {
         requires gate { Belongs self.old.chair gate.now }
         requires within { location < length self.old.chair.me.0.first.cells }
         ensures gate { self.new.chair.table_id ≡ self.old.chair.table_id }
-        ensures view { self.new.chair.me.0 ≡ self.old.chair.me.0 }
+        ensures view { self.new.chair.me.0 ≡ record self.old.chair.me.0 { tally = read_at self.old.chair.me.0.tally location } }
         ensures word { Shows (cell_at (standing self.old.chair.me.0) location) result }
     {
         let chair = &mut self.chair;
-        let place = COUNTS + gate.threads as usize + BEFORE_LOCATIONS + location as usize;
+        let place = gate.location_place(location);
         gate.table.shared.load::<Read>(chair, place)
     }
 
@@ -87,11 +92,11 @@ impl Stopped {
         requires base { (cell_of word).base ≡ (cell_at (standing self.old.chair.me.0) location).base }
         requires allowed { Allowed (cell_of word) (word % 256) }
         ensures gate { self.new.chair.table_id ≡ self.old.chair.table_id }
-        ensures view { self.new.chair.me.0 ≡ record self.old.chair.me.0 { written = record { place = 7 + location; word = word } ∷ self.old.chair.me.0.written } }
+        ensures view { self.new.chair.me.0 ≡ record self.old.chair.me.0 { written = record { place = before_locations + location; word = word } ∷ self.old.chair.me.0.written; tally = rewritten_once self.old.chair.me.0.tally } }
     {
         let chair = &mut self.chair;
-        let place = COUNTS + gate.threads as usize + BEFORE_LOCATIONS + location as usize;
-        gate.table.shared.store::<Store>(chair, place, word);
+        let place = gate.location_place(location);
+        gate.table.shared.store::<Rewrite>(chair, place, word);
     }
 
     /// Stores the global word.
@@ -101,7 +106,7 @@ impl Stopped {
         ensures view { self.new.chair.me.0 ≡ record self.old.chair.me.0 { written = record { place = 0; word = word } ∷ self.old.chair.me.0.written } }
     {
         let chair = &mut self.chair;
-        let place = COUNTS + gate.threads as usize;
+        let place = gate.global_place();
         gate.table.shared.store::<Store>(chair, place, word);
     }
 
@@ -113,7 +118,7 @@ impl Stopped {
         ensures view { self.new.chair.me.0 ≡ record self.old.chair.me.0 { written = record { place = 1 + tool; word = word } ∷ self.old.chair.me.0.written } }
     {
         let chair = &mut self.chair;
-        let place = COUNTS + gate.threads as usize + 1 + tool as usize;
+        let place = gate.callbacks_place(tool);
         gate.table.shared.store::<Store>(chair, place, word);
     }
 
@@ -127,7 +132,7 @@ impl Stopped {
         ensures high { UpTo thread result self.old.chair.me.0.seen }
     {
         let chair = &mut self.chair;
-        let place = COUNTS + thread as usize;
+        let place = gate.count_place(thread);
         gate.table.shared.load::<Note>(chair, place)
     }
 

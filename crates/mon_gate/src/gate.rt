@@ -1,6 +1,8 @@
-ghost use Rattle.mon_words.specs.History.{base_in};
+ghost use Rattle.mon_words.specs.History.{base_in, offs};
+ghost use Rattle.mon_words.specs.Standing.{size};
+ghost use Rattle.mon_gate.specs.Places.{board_place, word_place};
 ghost use Rattle.mon_gate.specs.Plays.{standing};
-ghost use Rattle.mon_gate.specs.Rule.{inside, numbered, works};
+ghost use Rattle.mon_gate.specs.Rule.{first_board, inside, numbered, works};
 ghost use Rattle.mon_gate.specs.declared.gate.GateFault.TheVariants as gate_fault;
 ghost use Rattle.mon_gate.specs.declared.view.Phase.TheVariants.{Idle as IdleNow, Asked as AskedNow, Stopped as StoppedNow};
 ghost use Rattle.std.specs.Prelude.{◌≡◌, ◌+◌, ◌++◌, ◌<◌, [], IfOk, length, map, replicate};
@@ -13,18 +15,6 @@ use std::snapshot::Snapshot;
 use thiserror::Error;
 
 pub(crate) type Chair = atomic_table::Seat<(), View>;
-
-/// The gate word, which counts the attached threads and has the stop bit.
-pub(crate) const GATE: usize = 0;
-
-/// The word that counts the claimed numbers.
-pub(crate) const CLAIMS: usize = 1;
-
-/// The step count of thread 0.
-pub(crate) const COUNTS: usize = 2;
-
-/// The words of the board before those of the locations: the global word and six callback words.
-pub(crate) const BEFORE_LOCATIONS: usize = 7;
 
 /// The bit of the gate word that asks the world to stop.
 pub(crate) const STOP: u64 = 1 << 63;
@@ -50,9 +40,8 @@ impl From<AllocError> for GateFault {
 pub struct Gate {
     pub(crate) table: Table<(), View, Plan, GateRule, Global>,
     pub(crate) threads: u8,
-    pub(crate) locations: usize,
     ghost threads_are: { table.shared.key.threads ≡ threads },
-    ghost words_are: { table.shared.table_id.words ≡ 9 + threads + locations },
+    ghost words_are: { table.shared.table_id.words ≡ word_place threads (size (first_board table.shared.key)) },
 }
 
 /// The right to take part in a gate. The first pass of a gate becomes its controller, the others claim numbers.
@@ -72,6 +61,7 @@ pub struct Seat {
     ghost low: { number < chair.me.0.threads },
     ghost live: { numbered chair.me.0.phase ≡ 1 },
     ghost settled: { inside chair.me.0.phase ≡ works chair.me.0.phase },
+    ghost own: { offs chair.me.0.number chair.me.0.seen ≡ chair.me.0.mine },
 }
 
 /// The controller while the world runs.
@@ -121,22 +111,14 @@ impl Gate {
             threads,
             words: Snapshot::of(&words),
         };
-        let locations = first.len() - BEFORE_LOCATIONS;
         let (table, chair) = Table::of_words(alloc, &words, &plan)?;
-        Ok((
-            Gate {
-                table,
-                threads,
-                locations,
-            },
-            Pass { chair },
-        ))
+        Ok((Gate { table, threads }, Pass { chair }))
     }
 }
 
 // The words of a gate that nobody entered: two and a count for each thread are 0, and then come those of the board.
 fn table_words(alloc: Global, threads: u8, first: &[u64]) -> Result<Vec<u64>, AllocError>
-    ensures { IfOk result (λ words. words.items ≡ replicate (2 + threads) 0 ++ first.now) }
+    ensures { IfOk result (λ words. words.items ≡ replicate (board_place threads) 0 ++ first.now) }
 {
     let mut words = Vec::new(alloc);
     words.push(0)?;

@@ -6,6 +6,7 @@ mod controller;
 mod gate;
 mod laws;
 mod pass;
+mod place;
 mod play;
 mod seat;
 mod turn;
@@ -14,10 +15,10 @@ mod wait;
 
 pub use gate::{Asked, Gate, GateFault, Idle, NotYet, Pass, Seat, Stopped};
 pub use laws::stopped_is_alone;
-pub use pass::{claim, join, split};
+pub use pass::{claim, join, settle, split};
 pub use play::GateRule;
 pub use turn::idle;
-pub use view::{Ended, Phase, Plan, Tally, View};
+pub use view::{Ended, Phase, Plan, View};
 pub use wait::enter;
 
 #[cfg(test)]

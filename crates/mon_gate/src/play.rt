@@ -1,6 +1,6 @@
 //! The rule of the table, and the names of its kinds of step.
 ghost use Rattle.mon_gate.specs.Rule.{Kept, starting, spent};
-ghost use Rattle.mon_gate.specs.Plays.{claimed, entered, dropped, polled, observed, counted, asked, released, loaded, disabled, retired, read, stored, noted, settled, cut_left, cut_right, joined};
+ghost use Rattle.mon_gate.specs.Plays.{claimed, looked, entered, dropped, polled, observed, counted, asked, released, loaded, found_global, found_callbacks, disabled, retired, read, stored, rewritten, noted, settled, cut_left, cut_right, joined};
 
 use crate::view::{Plan, View};
 use atomic_table::{Join, Play, Split, TableRule};
@@ -18,6 +18,12 @@ pub struct Claim;
 
 impl Play<(), View> for Claim {
     ghost then = { claimed };
+}
+
+pub struct Look;
+
+impl Play<(), View> for Look {
+    ghost then = { looked };
 }
 
 pub struct Enter;
@@ -68,6 +74,18 @@ impl Play<(), View> for Load {
     ghost then = { loaded };
 }
 
+pub struct LoadGlobal;
+
+impl Play<(), View> for LoadGlobal {
+    ghost then = { found_global };
+}
+
+pub struct LoadCallbacks;
+
+impl Play<(), View> for LoadCallbacks {
+    ghost then = { found_callbacks };
+}
+
 pub struct Disable;
 
 impl Play<(), View> for Disable {
@@ -90,6 +108,12 @@ pub struct Store;
 
 impl Play<(), View> for Store {
     ghost then = { stored };
+}
+
+pub struct Rewrite;
+
+impl Play<(), View> for Rewrite {
+    ghost then = { rewritten };
 }
 
 pub struct Note;

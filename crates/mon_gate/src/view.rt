@@ -1,6 +1,6 @@
 //! What each seat of the table knows. No value of these types is made when the program runs, but for [`Plan`].
 
-use mon_words::{Board, Mark, Noted, Retirement, Written};
+use mon_words::{Board, Mark, Noted, Tally, Written};
 use std::alloc::Global;
 use std::collections::LinkedList;
 use std::snapshot::Snapshot;
@@ -19,23 +19,13 @@ pub enum Phase {
     Spent,
 }
 
-/// What is counted of a seat's steps. No part of the rule speaks of it.
-pub struct Tally {
-    /// The polls made, and how many of them found the stop bit.
-    pub polls: u64,
-    pub polled: u64,
-    /// The gate word that the seat found last where it entered, polled or observed.
-    pub found: u64,
-    /// The seat's tries to retire a word, in order.
-    pub retirements: LinkedList<Retirement>,
-}
-
-/// A thread number that ended: its disables, its last count, and the history that it had seen.
+/// A thread number that ended: its disables, its last count, the history that it had seen, and its tally.
 pub struct Ended {
     pub number: u64,
     pub marks: LinkedList<Mark>,
     pub last: u64,
     pub seen: LinkedList<Mark>,
+    pub tally: Tally,
 }
 
 /// What a seat knows.
@@ -58,6 +48,9 @@ pub struct View {
     /// While stopped: the counts read and the words stored since the stop, the last one first.
     pub noted: LinkedList<Noted>,
     pub written: LinkedList<Written>,
+    /// The word that was found last where the seat looked for a stop, entered, polled or observed.
+    pub found: u64,
+    /// What was done under the seat's number, or by the controller.
     pub tally: Tally,
 }
 

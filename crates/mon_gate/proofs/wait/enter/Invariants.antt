@@ -1,4 +1,4 @@
-use Rattle.std.proofs.Common.{◌≡◌, length}
+use Rattle.std.proofs.Common.{◌≡◌, ◌≤◌, length}
 use Rattle.mon_words.specs.History.{Begins, Still}
 use Rattle.mon_gate.specs.declared.view.Phase.TheVariants.{Out}
 use Rattle.mon_gate.proofs.wait.enter.Given as goal
@@ -11,5 +11,6 @@ invariant-loop g l = record {
   number : l.seat.number ≡ l.initial.seat.number;
   begins : Begins l.initial.seat.chair.me.0.seen l.seat.chair.me.0.seen;
   still : Still (length l.initial.seat.chair.me.0.seen) l.initial.seat.chair.me.0.number l.initial.seat.chair.me.0.stored l.seat.chair.me.0.seen;
-  view : l.seat.chair.me.0 ≡ record l.initial.seat.chair.me.0 { phase = Out; seen = l.seat.chair.me.0.seen; tally = record l.initial.seat.chair.me.0.tally { found = l.seat.chair.me.0.tally.found } };
+  tries : l.initial.seat.chair.me.0.tally.entries ≤ l.seat.chair.me.0.tally.entries;
+  view : l.seat.chair.me.0 ≡ record l.initial.seat.chair.me.0 { phase = Out; seen = l.seat.chair.me.0.seen; found = l.seat.chair.me.0.found; tally = record l.initial.seat.chair.me.0.tally { entries = l.seat.chair.me.0.tally.entries } };
 }
