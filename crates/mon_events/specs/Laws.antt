@@ -1,5 +1,5 @@
 -- What sets, words of bits and names are known by.
-use Rattle.std.specs.Prelude.{◌≡◌, ℕ, ◌^◌, ◌<◌, ◌≤◌, Bool, Some}
+use Rattle.std.specs.Prelude.{◌≡◌, ℕ, ◌^◌, ◌<◌, Bool, Some}
 use Rattle.mon_events.specs.Events.{events, name_of, place}
 use Rattle.mon_events.specs.Names.{event_named}
 use Rattle.mon_events.specs.Sets.{is_bit, packed, has, set_of, slot_of, tool_of}
