@@ -68,6 +68,7 @@ impl Handle for TableHandle<'_> {
 
     /// One try to attach. A refusal carries the gate word that this try found.
     fn try_enter(&mut self) -> Result<(), WorldStopped>
+        requires detached { is_attached self.old.seat.chair.me.0.phase ≡ false }
         ensures gate { self.new.seat.chair.table_id ≡ self.old.seat.chair.table_id }
         ensures kept { (self.new.seat.chair.me.0.threads ≡ self.old.seat.chair.me.0.threads) × (self.new.seat.chair.me.0.tickets ≡ self.old.seat.chair.me.0.tickets) × (self.new.seat.chair.me.0.ended ≡ self.old.seat.chair.me.0.ended) }
         ensures told { Enters (told_of self.old.seat.chair.me.0) result (told_of self.new.seat.chair.me.0) }
