@@ -1,4 +1,4 @@
-ghost use Rattle.std.specs.Prelude.{◌≡◌, ◌<◌, ◌^◌, IsTrue, IfOk, map};
+ghost use Rattle.std.specs.Prelude.{◌≡◌, ◌<◌, ◌^◌, ◌==◌, bit_and, IsTrue, IfOk, map};
 ghost use Rattle.mon_events.specs.Events.{place};
 ghost use Rattle.mon_words.specs.History.{base_in};
 ghost use Rattle.mon_words.specs.Standing.{board_of, IsFirst};
@@ -104,9 +104,10 @@ pub fn mask(slot: Slot, tool: u8) -> u64
     u64::MAX - (1_099_511_627_776 << (6 * slot.number() + tool))
 }
 
-/// Whether a word enables nothing. Where it is true, no event of a slot is enabled for a tool.
+/// Whether a word enables nothing: no bit is both wanted and live. Then no event of a slot is enabled for a tool.
 pub fn is_quiet(word: u64) -> bool
-    ensures { IsTrue result → spec.Quiet (spec.cell_of word) }
+    ensures bits { result ≡ (bit_and (spec.cell_of word).want (spec.cell_of word).live == 0) }
+    ensures quiet { IsTrue result → spec.Quiet (spec.cell_of word) }
 {
     ((word >> 16) % 16_777_216) & (word >> 40) == 0
 }
