@@ -1,5 +1,5 @@
 -- What the calls of a plain handle tell.
-use Rattle.std.proofs.Common.{◌≡◌, ℕ, zero, suc, ◌+◌, ◌<◌, List, [], ◌∷◌, ◌++◌, map, get_or, get_or-set_same, set, length, cond, eqb, eq-eqb, refl, sym, ap, ◌∙◌, subst, Bool, true, false}
+use Rattle.std.proofs.Common.{◌≡◌, ℕ, zero, suc, ◌<◌, List, [], ◌∷◌, ◌++◌, map, get_or, get_or-set_same, set, length, cond, eqb, eq-eqb, refl, sym, ap, ◌∙◌, subst, Bool, true, false}
 use Rattle.std.specs.Prelude.{Ok, ◌==◌}
 use Rattle.mon_words.specs.Words.{Shows}
 use Rattle.mon_words.specs.History.{cell_at, after, base_in}

@@ -1,4 +1,4 @@
-use Rattle.std.proofs.Common.{rules, arith, ◌≡◌, ◌+◌, ◌-◌}
+use Rattle.std.proofs.Common.{rules, arith, ◌+◌}
 use Rattle.mon_board.proofs.Steps.{loads}
 use Rattle.mon_board.proofs.plain.PlainBoard.load.Goals as goal
 

@@ -1,4 +1,4 @@
-use Rattle.std.proofs.Common.{rules, arith, ◌≡◌, ◌+◌, ◌-◌}
+use Rattle.std.proofs.Common.{rules, arith, ◌+◌}
 use Rattle.mon_board.proofs.Steps.{reads}
 use Rattle.mon_board.proofs.plain.PlainBoard.read.Goals as goal
 

@@ -1,4 +1,4 @@
-use Rattle.std.proofs.Common.{rules, arith, refl, subst, ◌≡◌, ◌+◌, ◌-◌, ℕ}
+use Rattle.std.proofs.Common.{rules, arith, refl, subst, ◌≡◌, ◌-◌, ℕ}
 use Rattle.mon_words.specs.Words.{Shows}
 use Rattle.mon_words.specs.History.{cell_at}
 use Rattle.mon_board.specs.Plain.{standing}

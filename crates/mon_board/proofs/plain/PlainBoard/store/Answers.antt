@@ -1,4 +1,4 @@
-use Rattle.std.proofs.Common.{rules, arith, ap, ◌≡◌, ◌<◌, ◌∙◌, ◌+◌, ◌-◌, ◌∷◌, ℕ}
+use Rattle.std.proofs.Common.{rules, arith, ap, ◌≡◌, ◌<◌, ◌∙◌, ◌-◌, ◌∷◌, ℕ}
 use Rattle.mon_board.specs.declared.plain_view.PlainView.{PlainView}
 use Rattle.mon_board.proofs.Keeping.{Knows}
 use Rattle.mon_board.proofs.Keeping as keeping
