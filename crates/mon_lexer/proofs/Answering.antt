@@ -17,16 +17,16 @@ use Rattle.mon_lexer.proofs.Lines.{at, lines_within, lines_joined, lines_ended, 
 use Rattle.mon_lexer.proofs.Closings.{outcome_token, outcome_item, outcome_kept, fault_of, stack_more, started_token}
 
 -- the white space of a line
-change_bad : (started : Bool) (line : ℕ) (w : List ℕ) (stack : List (List ℕ)) → is_bad started w ≡ true → (change started line w stack).signs ≡ Breaks (BadIndent line) ∷ []
+pub change_bad : (started : Bool) (line : ℕ) (w : List ℕ) (stack : List (List ℕ)) → is_bad started w ≡ true → (change started line w stack).signs ≡ Breaks (BadIndent line) ∷ []
 change_bad started line w stack h = ap (λ b. (if b then record { signs = Breaks (BadIndent line) ∷ []; stack = stack } else (if is_deeper w (top_of stack) then record { signs = shows kind.Indent line ∷ []; stack = w ∷ stack } else closed line w stack)).signs) h
 
-change_deeper : (started : Bool) (line : ℕ) (w : List ℕ) (stack : List (List ℕ)) → is_bad started w ≡ false → is_deeper w (top_of stack) ≡ true → change started line w stack ≡ record { signs = shows kind.Indent line ∷ []; stack = w ∷ stack }
+pub change_deeper : (started : Bool) (line : ℕ) (w : List ℕ) (stack : List (List ℕ)) → is_bad started w ≡ false → is_deeper w (top_of stack) ≡ true → change started line w stack ≡ record { signs = shows kind.Indent line ∷ []; stack = w ∷ stack }
 change_deeper started line w stack h d = rw (h, d) refl
 
-change_closed : (started : Bool) (line : ℕ) (w : List ℕ) (stack : List (List ℕ)) → is_bad started w ≡ false → is_deeper w (top_of stack) ≡ false → change started line w stack ≡ closed line w stack
+pub change_closed : (started : Bool) (line : ℕ) (w : List ℕ) (stack : List (List ℕ)) → is_bad started w ≡ false → is_deeper w (top_of stack) ≡ false → change started line w stack ≡ closed line w stack
 change_closed started line w stack h d = rw (h, d) refl
 
-deeper_start : (w top : List ℕ) → is_deeper w top ≡ true → start w ≡ []
+pub deeper_start : (w top : List ℕ) → is_deeper w top ≡ true → start w ≡ []
 deeper_start [] [] h = cc
 deeper_start [] (t ∷ ts) h = cc
 deeper_start (c ∷ cs) top h = refl

@@ -24,7 +24,7 @@ unfolding pieces
 pieces_past [] rest line = refl
 pieces_past (c ∷ cs) rest line = pieces_past cs rest (line_after c line)
 
-pieces_step : (line w : ℕ) (p : Piece) (read rest : List ℕ) → front_at line (read ++ rest) ≡ record { piece = p; width = w } → length read ≡ w → 0 < w
+pub pieces_step : (line w : ℕ) (p : Piece) (read rest : List ℕ) → front_at line (read ++ rest) ≡ record { piece = p; width = w } → length read ≡ w → 0 < w
     → pieces line 0 (read ++ rest) ≡ at line p ∷ pieces (line_past read line) 0 rest
 unfolding pieces
 pieces_step line w p [] rest e n h = absurd (omega arith)

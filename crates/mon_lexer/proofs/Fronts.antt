@@ -30,14 +30,14 @@ or_true : (a : Bool) → (a || true) ≡ true
 or_true true = refl
 or_true false = refl
 
-letter_name : (c : ℕ) → is_letter c ≡ true → is_name_char c ≡ true
+pub letter_name : (c : ℕ) → is_letter c ≡ true → is_name_char c ≡ true
 letter_name c t = ap (λ b. b || is_ascii_digit c) t
 
-digit_number : (c : ℕ) → is_ascii_digit c ≡ true → is_number_char c ≡ true
+pub digit_number : (c : ℕ) → is_ascii_digit c ≡ true → is_number_char c ≡ true
 digit_number c t = ap (λ b. is_letter c || b || c == 46) t ∙ ap (λ b. b || c == 46) (or_true (is_letter c))
 
 -- which arm of `front` a character takes
-name_is : (line c : ℕ) (cs : List ℕ) → first cs ≡ Some c → is_letter c ≡ true → front_at line cs ≡ name_front (run is_name_char cs)
+pub name_is : (line c : ℕ) (cs : List ℕ) → first cs ≡ Some c → is_letter c ≡ true → front_at line cs ≡ name_front (run is_name_char cs)
 unfolding front
 name_is line c [] h t = cc
 name_is line c (d ∷ ds) h t =
@@ -45,7 +45,7 @@ name_is line c (d ∷ ds) h t =
     let e : is_letter d ≡ true = ap (λ x. is_letter x) same ∙ t in
     rw e refl
 
-number_is : (line c : ℕ) (cs : List ℕ) → first cs ≡ Some c → is_letter c ≡ false → is_ascii_digit c ≡ true → front_at line cs ≡ number_front line (run is_number_char cs)
+pub number_is : (line c : ℕ) (cs : List ℕ) → first cs ≡ Some c → is_letter c ≡ false → is_ascii_digit c ≡ true → front_at line cs ≡ number_front line (run is_number_char cs)
 unfolding front
 number_is line c [] h f t = cc
 number_is line c (d ∷ ds) h f t =
@@ -54,7 +54,7 @@ number_is line c (d ∷ ds) h f t =
     let e : is_ascii_digit d ≡ true = ap (λ x. is_ascii_digit x) same ∙ t in
     rw (e0, e) refl
 
-text_is : (line c : ℕ) (cs : List ℕ) → is_letter c ≡ false → is_ascii_digit c ≡ false → is_quote c ≡ true → front_at line (c ∷ cs) ≡ text_front line (quoted c cs)
+pub text_is : (line c : ℕ) (cs : List ℕ) → is_letter c ≡ false → is_ascii_digit c ≡ false → is_quote c ≡ true → front_at line (c ∷ cs) ≡ text_front line (quoted c cs)
 unfolding front
 text_is line c cs f g t = rw (f, g, t) refl
 
@@ -103,7 +103,7 @@ read_one c k piece old new e f p = record {
   spanned = λ _. record { front = c ∷ []; size = refl; past = p };
 }
 
-comment_is : (line c : ℕ) (cs : List ℕ) → first cs ≡ Some c → c ≡ 35 → front_at line cs ≡ record { piece = Comment; width = length (run is_inside_line cs) }
+pub comment_is : (line c : ℕ) (cs : List ℕ) → first cs ≡ Some c → c ≡ 35 → front_at line cs ≡ record { piece = Comment; width = length (run is_inside_line cs) }
 unfolding front
 comment_is line c [] h e = cc
 comment_is line c (d ∷ ds) h e =
@@ -118,7 +118,7 @@ read_comment c old new h e p = record {
   spanned = λ _. record { front = run is_inside_line old.left; size = refl; past = p };
 }
 
-joined_is : (line : ℕ) (cs : List ℕ) → front line 92 (10 ∷ cs) ≡ record { piece = Joined; width = 2 }
+pub joined_is : (line : ℕ) (cs : List ℕ) → front line 92 (10 ∷ cs) ≡ record { piece = Joined; width = 2 }
 unfolding front
 joined_is line cs = refl
 
@@ -153,7 +153,7 @@ or_false_after false b h = h
 and_false : (a b : Bool) → a ≡ false → (a && b) ≡ false
 and_false a b h = ap (λ x. x && b) h
 
-other_is : (line c : ℕ) (cs : List ℕ) → first cs ≡ Some c → begins_word c ≡ false → (c == 32) ≡ false → (c == 9) ≡ false → (c == 10) ≡ false → (c == 35) ≡ false → (c == 92) ≡ false
+pub other_is : (line c : ℕ) (cs : List ℕ) → first cs ≡ Some c → begins_word c ≡ false → (c == 32) ≡ false → (c == 9) ≡ false → (c == 10) ≡ false → (c == 35) ≡ false → (c == 92) ≡ false
     → front_at line cs ≡ operator_front line (operator_at cs)
 unfolding front
 other_is line c [] h w e32 e9 e10 e35 e92 = cc
@@ -189,7 +189,7 @@ read_no_operator c old new h w e32 e9 e10 e35 e92 r = record {
   spanned = λ h. cc;
 }
 
-blank_is : (line c : ℕ) (cs : List ℕ) → is_letter c ≡ false → is_ascii_digit c ≡ false → is_quote c ≡ false → is_blank c ≡ true → front line c cs ≡ one (Blank c)
+pub blank_is : (line c : ℕ) (cs : List ℕ) → is_letter c ≡ false → is_ascii_digit c ≡ false → is_quote c ≡ false → is_blank c ≡ true → front line c cs ≡ one (Blank c)
 unfolding front
 blank_is line c cs e0 e1 e2 h = rw (e0, e1, e2, h) refl
 

@@ -1,12 +1,12 @@
 -- A text is cut into its lines in one way.
-use Rattle.std.proofs.Common.{◌≡◌, true≢false, ℕ, ◌+◌, ◌-◌, ◌<◌, List, [], ◌∷◌, ◌++◌, Bool, true, false, not, ◌&&◌, ◌==◌, refl, sym, ap, ◌∙◌, arith, subst, map, length, length-append, append_assoc, take, drop, get_or, IsUtf8, chars, All, IsCharBoundary, encode_utf8, encode_utf8_all, if◌then◌else◌, suc, zero}
+use Rattle.std.proofs.Common.{◌≡◌, true≢false, ℕ, ◌+◌, ◌<◌, List, [], ◌∷◌, ◌++◌, Bool, true, false, ◌&&◌, ◌==◌, refl, sym, ap, ◌∙◌, arith, subst, map, length, length-append, append_assoc, drop, get_or, IsUtf8, chars, encode_utf8, encode_utf8_all, if◌then◌else◌}
 use Rattle.std.specs.List.{list_all}
 use Rattle.std.proofs.Math.Seq.{take-append_seam, drop-append_seam, get_or-append_seam}
 use Rattle.std.proofs.lemmas.List.Folds.{list_all-append}
 use Rattle.std.proofs.lemmas.List.Elements.{All-cons, All-nil}
 use Rattle.std.proofs.lemmas.Str.{IsUtf8-take, IsUtf8-drop, IsCharBoundary-before_ascii, IsCharBoundary-after_ascii, chars-append, chars-encodes}
 use Rattle.mon_lexer.specs.Characters.{begins_with, line_ends}
-use Rattle.mon_lexer.specs.Lines.{is_in_line, IsLine, EndsLine, feed, return_and_feed, return_alone, HasLines, last, more, joined, joined_behind, LinesOnce, LinesOfCharacters}
+use Rattle.mon_lexer.specs.Lines.{is_in_line, IsLine, EndsLine, feed, return_and_feed, return_alone, HasLines, last, more, joined, LinesOnce, LinesOfCharacters}
 
 -- the first line, and the others
 record Cut : Type 0 where
