@@ -5,8 +5,8 @@ ghost use Rattle.mon_values.specs.declared.value.Value.{Value as ValueOf};
 ghost use Rattle.mon_values.specs.declared.value.Value.TheVariants.{None as NoneValue};
 ghost use Rattle.mon_frames.specs.Views.{Takes};
 
-use mon_frames::{FrameFault, Frames, Handling, Operands, Origin, handler_of, item_at, item_count};
 use mon_code::{Code, Handler, Location, Program};
+use mon_frames::{FrameFault, Frames, Handling, Operands, Origin, handler_of, item_at, item_count};
 use mon_shared::SharedItems;
 use mon_values::print::repr;
 use mon_values::text::Text;

@@ -4,8 +4,8 @@ ghost use Rattle.mon_values.specs.declared.value.Value.TheVariants.{Int, None as
 ghost use Rattle.mon_words.specs.History.{base_in};
 ghost use Rattle.mon_words.specs.Words.{cell_of};
 
-use mon_interp::{Stop, Thread};
 use mon_code::{Code, Location, Program};
+use mon_interp::{Stop, Thread};
 use mon_recorders::Record;
 use mon_values::text::Text;
 use mon_values::value::Value;

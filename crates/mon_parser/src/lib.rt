@@ -19,4 +19,3 @@ pub use laws::{
     items_parse_once, texts_are_read_once,
 };
 pub use parser::{SyntaxFault, parse};
-

@@ -1,6 +1,6 @@
-use mon_main::{Plan, PlanFault, module, read_plan};
 use mon_code::Program;
 use mon_compile::compile;
+use mon_main::{Plan, PlanFault, module, read_plan};
 use std::alloc::{AllocError, Global};
 use std::test::Fail;
 
