@@ -158,6 +158,14 @@ fn one_text(alloc: Global, text: &str) -> Result<Items<Text>, AllocError>
     Ok(texts)
 }
 
+fn one_name(alloc: Global) -> Result<Items<Text>, AllocError>
+    ensures { IfOk result (λ all. all ≡ (960 ∷ []) ∷ []) }
+{
+    let mut texts = Items::new(alloc);
+    texts.push(Text::from_chars(alloc, &['π'])?)?;
+    Ok(texts)
+}
+
 fn program(alloc: Global) -> Result<Program, AllocError>
     ensures { IfOk result (λ p. p.bases ≡ 1 ∷ 3 ∷ 22 ∷ 3 ∷ 2 ∷ 8 ∷ 4 ∷ 21 ∷ 3 ∷ 29 ∷ 2 ∷ 29 ∷ []) }
 {
@@ -172,8 +180,7 @@ fn program(alloc: Global) -> Result<Program, AllocError>
     };
     let mut codes = Items::new(alloc);
     codes.push(code)?;
-    let mut names = Items::new(alloc);
-    names.push(Text::from_chars(alloc, &['π'])?)?;
+    let names = one_name(alloc)?;
     let named = Items::new(alloc);
     let bases = Items::from_slice(alloc, &BASES)?;
     Ok(Program::new(names, named, codes, bases))

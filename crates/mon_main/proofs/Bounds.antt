@@ -2,6 +2,7 @@
 use Rattle.std.proofs.Common.{◌≡◌, ℕ, ℤ, ◌==◌, Bool, true, false, List, [], ◌∷◌, length, map, refl, sym, ap, subst, ◌∙◌, arith, nat_lt}
 use Rattle.std.specs.Prelude.{Option, Some, None, slice_get, ◌&&◌, bytes_eq, codes, if◌then◌else◌}
 use Rattle.std.specs.List.{slice_split}
+use Rattle.std.specs.Str.{chars}
 use Rattle.std.proofs.lemmas.List.{length-map}
 use Rattle.std.proofs.lemmas.Bool.Decides.{nat_tests}
 use Rattle.mon_values.specs.declared.value.Value.{Value, Int}
@@ -9,7 +10,7 @@ use Rattle.mon_code.specs.declared.program.Code.{Code}
 use Rattle.mon_code.specs.Programs.{Parts, code_named}
 use Rattle.mon_code.specs.Checked.{IsChecked}
 use Rattle.mon_parser.specs.Texts.{Reading, Misspelled, Underived, Parsed}
-use Rattle.mon_parser.specs.declared.tree.Module.{Module}
+use Rattle.mon_trees.specs.declared.tree.Module.{Module}
 use Rattle.mon_compile.specs.declared.fault.CompileFault.{CompileFault}
 use Rattle.mon_compile.specs.declared.fault.CompileFault.TheVariants as compile
 use Rattle.mon_compile.specs.Faults.{compile_fault}
@@ -62,8 +63,8 @@ start_named : (p : Parts) (name : List ℕ) (args : Option (List ℤ)) → FitsS
 start_named p name None = tt
 start_named p name (Some args) = pick (nat_lt 0 (length name))
   where
-    pick : (b : Bool) → FitsStart p.codes (if b then plans.start_in p.codes (code_named p name) args else None)
-    pick true = start_in p.codes (code_named p name) args
+    pick : (b : Bool) → FitsStart p.codes (if b then plans.start_in p.codes (code_named p (chars name)) args else None)
+    pick true = start_in p.codes (code_named p (chars name)) args
     pick false = tt
 
 start_of_words : (p : Parts) (words : List (List ℕ)) → FitsStart p.codes (plans.start_of_words p words)

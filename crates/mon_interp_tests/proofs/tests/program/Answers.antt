@@ -73,4 +73,4 @@ new-requires c =
     let code : record { parameters = 1; locals = c.in_ok-one_text.field-0; globals = c.globals.inside.items.items; constants = c.in_ok-constants.field-0; first = 0; locations = c.in_ok-locations.field-0 } ≡ countdown
     = made _ _ _ _ c.in_ok-one_text.ensures (c.globals.view_is ∙ c.new-globals.ensures) c.in_ok-constants.ensures c.in_ok-locations.ensures in
     let codes : c.push.new.self ≡ countdown ∷ [] = alone _ _ _ c.new-codes.ensures c.in_ok-push.ensures.ok ∙ ap (λ (code : Code). code ∷ []) code in
-    right c.in_ok-names.names c.new-named.result c.push.new.self c.in_ok-bases.bases (103 ∷ []) c.in_ok-names.ensures c.new-named.ensures codes c.in_ok-bases.ensures
+    right c.in_ok-names.names c.new-named.result c.push.new.self c.in_ok-bases.bases (960 ∷ []) c.in_ok-names.ensures c.new-named.ensures codes c.in_ok-bases.ensures
