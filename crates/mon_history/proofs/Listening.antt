@@ -4,6 +4,7 @@ use Rattle.mon_events.specs.Events.{bit, place, is_local, event_at, rank}
 use Rattle.mon_events.specs.declared.event.Event.{Event}
 use Rattle.mon_events.specs.declared.event.Slot.{Slot}
 use Rattle.mon_events.proofs.Bits.{packed_bit}
+use Rattle.mon_events.proofs.Listed.{bit_lt, event_back}
 use Rattle.mon_code.specs.declared.site.Site.{Site}
 use Rattle.mon_code.specs.Sites.{site_at, slot_event}
 use Rattle.mon_words.specs.Words.{is_bit, is_enabled, is_wanted, differ}
@@ -28,45 +29,6 @@ pub delivered_same : {A : Type 0} (f g : ℕ → Happening → Bool) (make : Hap
     → ((e : Happening) → IsProper sites e → (t : ℕ) → t < 6 → f t e ≡ g t e) → delivered f make es ≡ delivered g make es
 delivered_same f g make sites [] p h = refl
 delivered_same f g make sites (e ∷ es) p h = let a = for_tools_same (λ t. f t e) (λ t. g t e) (make e) 6 (h e p.0) in let b = delivered_same f g make sites es p.1 h in λ i. a i ++ b i
-
--- the policies
-pub bit_lt : (e : Event) → bit e < 17
-bit_lt Event.Branch = omega arith
-bit_lt Event.Call = omega arith
-bit_lt Event.CRaise = omega arith
-bit_lt Event.CReturn = omega arith
-bit_lt Event.ExceptionHandled = omega arith
-bit_lt Event.Instruction = omega arith
-bit_lt Event.Jump = omega arith
-bit_lt Event.Line = omega arith
-bit_lt Event.PyResume = omega arith
-bit_lt Event.PyReturn = omega arith
-bit_lt Event.PyStart = omega arith
-bit_lt Event.PyThrow = omega arith
-bit_lt Event.PyUnwind = omega arith
-bit_lt Event.PyYield = omega arith
-bit_lt Event.Raise = omega arith
-bit_lt Event.Reraise = omega arith
-bit_lt Event.StopIteration = omega arith
-
-pub event_back : (e : Event) → event_at (bit e) ≡ e
-event_back Event.Branch = refl
-event_back Event.Call = refl
-event_back Event.CRaise = refl
-event_back Event.CReturn = refl
-event_back Event.ExceptionHandled = refl
-event_back Event.Instruction = refl
-event_back Event.Jump = refl
-event_back Event.Line = refl
-event_back Event.PyResume = refl
-event_back Event.PyReturn = refl
-event_back Event.PyStart = refl
-event_back Event.PyThrow = refl
-event_back Event.PyUnwind = refl
-event_back Event.PyYield = refl
-event_back Event.Raise = refl
-event_back Event.Reraise = refl
-event_back Event.StopIteration = refl
 
 digit : (f : Event → Policy) (e : Event) (k j : ℕ) → k ≡ 2 * bit e + j → j < 2 → policy_bit (f (event_at (k / 2))) (k % 2) ≡ policy_bit (f e) j
 digit f e k j is low =
