@@ -109,6 +109,7 @@ impl Journal {
     /// Appends a line, for which there is room.
     pub fn add(&mut self, line: JournalLine)
         requires room { 0 < self.old.room }
+        requires few { length self.old.lines < 256 }
         ensures { self.new.lines ≡ self.old.lines ++ line ∷ [] }
     {
         if self.lines.push(line).is_err() {
