@@ -4,3 +4,4 @@ pub mod Codes
 pub mod Chosen
 pub mod Walks
 pub mod Standing
+pub mod Firsts

@@ -3,6 +3,7 @@
 
 mod applying;
 mod bits;
+mod laws;
 mod refreshing;
 mod walking;
 mod wanting;
@@ -10,6 +11,7 @@ mod words;
 
 pub use applying::{apply, apply_restart};
 pub use bits::local_set_of;
+pub use laws::first_words_stand;
 pub use walking::{Reach, walk};
 pub use wanting::{want, want_bits};
 pub use words::{callback_word, globals_word, set_words};
