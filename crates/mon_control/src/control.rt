@@ -57,6 +57,13 @@ impl Control {
         })
     }
 
+    /// The number of calls that were made.
+    pub fn calls(&self) -> usize
+        ensures { result ≡ length self.now.journal }
+    {
+        self.journal.len()
+    }
+
     /// Makes a call for which the world is not stopped, or gets all ready for one for which it is.
     pub fn prepare(&mut self, who: Who, call: &ControlCall) -> Result<Prepared, ControlFault>
         requires code { NamesCode self.old.codes call.now }
