@@ -1,0 +1,10 @@
+pub mod Configuration
+pub mod Heard
+pub mod Registry
+pub mod Journal
+pub mod Lines
+pub mod Histories
+pub mod Readings
+pub mod Stands
+pub mod Kept
+pub mod Laws
