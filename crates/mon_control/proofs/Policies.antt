@@ -18,7 +18,7 @@ pub policied_none : (w : ℕ) (a : Policy) (old : List Policy) → length old �
 policied_none w a old h = record { long = h; done = λ k l. absurd (omega arith); left = λ k l. refl }
 
 pub policied_set : (w : ℕ) (a : Policy) (n m : ℕ) (old now : List Policy) → m ≡ suc n → n < 17 → has w (event_at n) ≡ true → Policied w a n old now → Policied w a m old (set now n a)
-policied_set w a n m old now e low yes p = record {
+policied_set w a n m old now e low known p = record {
   long = length-set now n a ∙ p.long;
   done = λ k l. dite (ℕ_discrete k n)
       (λ is. here k is)
@@ -27,12 +27,12 @@ policied_set w a n m old now e low yes p = record {
 }
   where
     here : (k : ℕ) → k ≡ n → get_or (set now n a) k Policy.Nothing ≡ cond (has w (event_at k)) a (get_or old k Policy.Nothing)
-    here k is = ap (λ z. get_or (set now n a) z Policy.Nothing) is ∙ (get_or-set_same now n a Policy.Nothing (omega (arith, p.long)) ∙ sym (ap (λ z. cond (has w (event_at z)) a (get_or old k Policy.Nothing)) is ∙ ap (λ b. cond b a (get_or old k Policy.Nothing)) yes))
+    here k is = ap (λ z. get_or (set now n a) z Policy.Nothing) is ∙ (get_or-set_same now n a Policy.Nothing (omega (arith, p.long)) ∙ sym (ap (λ z. cond (has w (event_at z)) a (get_or old k Policy.Nothing)) is ∙ ap (λ b. cond b a (get_or old k Policy.Nothing)) known))
 
 pub policied_kept : (w : ℕ) (a : Policy) (n m : ℕ) (old now : List Policy) → m ≡ suc n → has w (event_at n) ≡ false → Policied w a n old now → Policied w a m old now
-policied_kept w a n m old now e no p = record {
+policied_kept w a n m old now e known p = record {
   long = p.long;
-  done = λ k l. dite (ℕ_discrete k n) (λ is. p.left k (omega arith) ∙ sym (ap (λ z. cond (has w (event_at z)) a (get_or old k Policy.Nothing)) is ∙ ap (λ b. cond b a (get_or old k Policy.Nothing)) no)) (λ ne. p.done k (omega arith));
+  done = λ k l. dite (ℕ_discrete k n) (λ is. p.left k (omega arith) ∙ sym (ap (λ z. cond (has w (event_at z)) a (get_or old k Policy.Nothing)) is ∙ ap (λ b. cond b a (get_or old k Policy.Nothing)) known)) (λ ne. p.done k (omega arith));
   left = λ k l. p.left k (omega arith);
 }
 

@@ -53,7 +53,6 @@ fn change_local(config: &mut Config, id: i64, code: u16, set: EventSet)
 
 fn change_policy(config: &mut Config, id: i64, set: EventSet, policy: Policy)
     requires tool { is_some (registry.tool id) ≡ true }
-    requires kept { (codes : ℕ) × IsKept codes config.old }
     ensures change { config_of config.new ≡ registry.change (Call.RegisterCallback id set policy) (config_of config.old) }
     ensures kept { (codes : ℕ) → IsKept codes config.old → IsKept codes config.new }
 {

@@ -71,7 +71,6 @@ fn policies_with(policies: [Policy; 17], set: EventSet, policy: Policy) -> [Poli
 /// Gives a tool a policy for each event of a set.
 pub fn set_policy(config: &mut Config, tool: u8, set: EventSet, policy: Policy)
     requires low { tool < 6 }
-    requires kept { (codes : ℕ) × IsKept codes config.old }
     ensures change { config_of config.new ≡ record (config_of config.old) { calls = put (config_of config.old).calls tool (λ e. if spec.has set.0 e then policy else (config_of config.old).calls tool e) } }
     ensures kept { (codes : ℕ) → IsKept codes config.old → IsKept codes config.new }
 {

@@ -30,7 +30,7 @@ walk-requires-clause-laid g c =
     laid_now p a.threads J c.args.ready.who call c.read_counts.new.counts C h0 h1 c.self.invariant.lawful stop changes wide stands c.requires.board counted
 
 pub words_of-standing-requires : goal.words_of-standing-requires
-words_of-standing-requires g c = (c.self.inside.codes, c.self.invariant.kept)
+words_of-standing-requires g c = record { kept = (c.self.inside.codes, c.self.invariant.kept) }
 
 pub change_words-requires-clause-six : goal.change_words-requires-clause-six
 change_words-requires-clause-six g c =
