@@ -7,13 +7,14 @@ use Rattle.mon_code.specs.declared.program.Code.{Code}
 use Rattle.mon_code.specs.Programs.{Parts}
 use Rattle.mon_words.specs.Words.{is_called, is_once}
 use Rattle.mon_words.specs.History.{after, offs}
+use Rattle.mon_words.specs.Tallies.{location_loads}
 use Rattle.mon_words.specs.Told.{Told, Owns, Grows, Polls, Leaves, Enters, Continues}
 use Rattle.mon_words.specs.declared.handle.WorldStopped.{WorldStopped}
 use Rattle.mon_words.specs.declared.history.Board.{Board}
 use Rattle.mon_words.specs.declared.history.Mark.{Mark}
 use Rattle.mon_recorders.specs.declared.happening.Happening.{Happening}
 use Rattle.mon_recorders.specs.declared.happening.Kind.{Kind}
-use Rattle.mon_recorders.specs.Readings.{entries_by}
+use Rattle.mon_recorders.specs.Readings.{entries_by, in_turn}
 use Rattle.mon_recorders.specs.Boards.{reader, AreAt}
 use Rattle.mon_machine.specs.State.{State, goes, start}
 use Rattle.mon_machine.specs.Step.{step}
@@ -21,7 +22,7 @@ use Rattle.mon_machine.specs.Run.{after_steps}
 use Rattle.mon_machine.specs.Bare.{IsBare}
 use Rattle.mon_machine.specs.Serial.{HasLineWants, line_records}
 use Rattle.mon_machine.specs.Laws.{IsCall}
-use Rattle.mon_machine.specs.Advances.{Progress, Due, instruction_due, events_from, RanStep, Ran, Stays, Pauses, polls_once, Polled, PolledOnce, Advanced, is_asked, plain_after}
+use Rattle.mon_machine.specs.Advances.{Progress, nothing_done, Due, instruction_due, events_from, RanStep, Ran, Stays, Pauses, polls_once, Polled, PolledOnce, Advanced, is_asked, plain_after}
 
 -- an advance is made of its steps, and of the polls before them
 pub record StepsAddUp : Type 0 where
@@ -63,6 +64,15 @@ StandAt (Some due) es = AreAt due.location es
 abbrev pub EventsStandAtSteps : Type 0
 EventsStandAtSteps = (p : Parts) (s : State) → StandAt (instruction_due p s) (step p s).events
 
+abbrev pub location_read : Option Due → ℕ → List (ℕ × ℕ)
+location_read None at = []
+location_read (Some due) at = (due.location, at) ∷ []
+
+-- the loads of locations are one for each step with an instruction, of its location, at its position
+abbrev pub LoadsStandAtSteps : Type 0
+LoadsStandAtSteps = (p : Parts) (at : List ℕ) (a b : Told) (old new : Progress) → Ran p at a b old new
+    → location_loads b.tally.loads ≡ location_loads a.tally.loads ++ in_turn (λ k. location_read (instruction_due p (after_steps p old.state k)) (slice_index at k)) (length at)
+
 -- where nothing is wanted nothing is recorded, and a thread that was not asked to stop is where the plain run is
 pub record BareRuns : Type 0 where
   pub ran : (p : Parts) (at : List ℕ) (a b : Told) (old new : Progress) → IsBare (after a.first a.seen) → Stays a b → Ran p at a b old new → new ≡ plain_after p (length at) old
@@ -83,4 +93,4 @@ pub record KeptLines (p : Parts) (tool : ℕ) (n : ℕ) (b : Told) (s : State) (
 
 abbrev pub LinesAreKept : Type 0
 LinesAreKept = (p : Parts) (k : ℕ) (c : Code) (args : List Value) → IsCall p k c args → (tool : ℕ) (at : List ℕ) (a b : Told) (old new : Progress) → KeepsLines p tool a.first
-    → a.seen ≡ [] → offs a.number b.seen ≡ b.seen → old ≡ Rattle.mon_machine.specs.Advances.nothing_done (start c k args) → Ran p at a b old new → KeptLines p tool (length at) b (start c k args) new
+    → a.seen ≡ [] → offs a.number b.seen ≡ b.seen → old ≡ nothing_done (start c k args) → Ran p at a b old new → KeptLines p tool (length at) b (start c k args) new
