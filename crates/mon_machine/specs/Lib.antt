@@ -9,3 +9,6 @@ pub mod Serial
 pub mod Bare
 pub mod Laws
 pub mod LastLines
+pub mod Advances
+pub mod AdvanceLaws
+pub mod AdvanceExamples

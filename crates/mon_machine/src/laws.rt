@@ -1,3 +1,5 @@
+ghost use Rattle.mon_machine.specs.AdvanceExamples.{WorkedAdvance};
+ghost use Rattle.mon_machine.specs.AdvanceLaws.{StepsAddUp, StayingAddsUp, PausesAddUp, RunsJoin, RunsContinue, EventsStandAtSteps, LoadsStandAtSteps, BareRuns, LinesAreKept};
 ghost use Rattle.mon_machine.specs.LastLines.{LastLinesAreForEvents};
 ghost use Rattle.mon_machine.specs.Laws.{DepthsAsRecorded, GoesOnByOne, HeardByWants, LimitsAreBounds, LineMarks, NeverStuck, ProperEvents, RunsAddUp};
 
@@ -48,4 +50,44 @@ pub fn proper_events()
 /// Where LINE is enabled for one tool at the marked locations alone, that tool hears every LINE event of such a thread.
 pub fn heard_by_wants()
     ensures { HeardByWants }
+{}
+
+/// An advance is made of its steps, and of the polls before them.
+pub fn advances_add_up()
+    ensures steps { StepsAddUp }
+    ensures stays { StayingAddsUp }
+    ensures pauses { PausesAddUp }
+{}
+
+/// Two advances, between which a thread left and entered, are one.
+pub fn advances_join()
+    ensures { RunsJoin }
+{}
+
+/// What an advance does to a handle is among what any calls do: its disables are the answers of its steps.
+pub fn advances_continue()
+    ensures { RunsContinue }
+{}
+
+/// The events of an instruction are of its location, or enabled by the global word; without an instruction all are of the
+/// second kind. The loads of locations in an advance are one for each instruction, of its location.
+pub fn advances_stand_at_steps()
+    ensures events { EventsStandAtSteps }
+    ensures loads { LoadsStandAtSteps }
+{}
+
+/// Where nothing is wanted nothing is recorded, and a thread that is not asked to stop is where the plain run is.
+pub fn bare_runs()
+    ensures { BareRuns }
+{}
+
+/// Where one tool keeps LINE at the marked locations, its records of a thread that runs alone are its LINE events, and
+/// nothing is disabled.
+pub fn lines_are_kept()
+    ensures { LinesAreKept }
+{}
+
+/// Two lines of a function under a callback that answers DISABLE: polls, loads, records and disables of the whole run.
+pub fn worked_advance()
+    ensures { WorkedAdvance }
 {}
