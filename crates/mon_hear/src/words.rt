@@ -1,6 +1,6 @@
 //! The words by which a step is heard, each loaded at most once.
 
-ghost use Rattle.std.specs.Prelude.{◌≡◌, ◌<◌, ◌++◌, ◌∷◌, ◌&&◌, ◌==◌, bit_and, cond, not, false, ℕ, List, IsTrue, [], length, slice_index};
+ghost use Rattle.std.specs.Prelude.{◌≡◌, ◌<◌, ◌+◌, ◌++◌, ◌∷◌, ◌&&◌, ◌==◌, bit_and, cond, not, false, ℕ, List, IsTrue, [], length, slice_index};
 ghost use Rattle.mon_events.specs.Events.{rank};
 ghost use Rattle.mon_words.specs.Words.{cell_of, is_bit, is_enabled, is_wanted, is_called, is_once};
 ghost use Rattle.mon_words.specs.History.{after};
@@ -25,23 +25,29 @@ pub struct Words {
     pub callbacks: [u64; 6],
 }
 
+// Six bits of a word, from a place on.
+fn six_bits(word: u64, from: u8) -> u8
+    requires { from < 58 }
+    ensures { (tool : ℕ) → tool < 6 → is_bit result tool ≡ is_bit word (from + tool) }
+{
+    ((word >> from) % 64) as u8
+}
+
 // The tools for which an event of a slot is enabled by a word, as bits 0 to 5.
 fn slot_tools(word: u64, slot: Slot) -> u8
-    ensures low { result < 64 }
-    ensures bits { (tool : ℕ) → tool < 6 → is_bit result tool ≡ is_enabled (cell_of word) slot tool }
+    ensures { (tool : ℕ) → tool < 6 → is_bit result tool ≡ is_enabled (cell_of word) slot tool }
 {
     let enabled = ((word >> 16) % 16_777_216) & (word >> 40);
-    ((enabled >> (6 * slot.number())) % 64) as u8
+    six_bits(enabled, 6 * slot.number())
 }
 
 // The tools for which the global word asks for an event that is global alone, as bits 0 to 5.
 fn global_tools(word: u64, event: Event) -> u8
-    ensures low { result < 64 }
-    ensures bits { (tool : ℕ) → tool < 6 → is_bit result tool ≡ is_wanted word (rank event) tool }
+    ensures { (tool : ℕ) → tool < 6 → is_bit result tool ≡ is_wanted word (rank event) tool }
 {
     match event.rank() {
         None => 0,
-        Some(rank) => ((word >> (6 * rank)) % 64) as u8,
+        Some(rank) => six_bits(word, 6 * rank),
     }
 }
 
@@ -63,8 +69,7 @@ fn once(word: u64, event: Event) -> bool
 
 // The tools for which an event is enabled by these words, as bits 0 to 5.
 fn enabled_tools(word: u64, global: u64, event: &Happening) -> u8
-    ensures low { result < 64 }
-    ensures bits { (tool : ℕ) → tool < 6 → is_bit result tool ≡ is_enabled_by (λ l. cell_of word) global event.now.kind tool event.now.event }
+    ensures { (tool : ℕ) → tool < 6 → is_bit result tool ≡ is_enabled_by (λ l. cell_of word) global event.now.kind tool event.now.event }
 {
     match event.kind {
         Kind::Local(_, slot) => slot_tools(word, slot),
@@ -96,11 +101,8 @@ impl Words {
     pub fn hearers(&self, event: &Happening) -> u8
         ensures { (tool : ℕ) → tool < 6 → is_bit result tool ≡ (spec.filter self.now).hears tool event.now }
     {
-        let enabled = enabled_tools(self.word, self.global, event);
-        if enabled == 0 {
-            return 0;
-        }
-        called_tools(&self.callbacks, event.event, enabled)
+        let tools = enabled_tools(self.word, self.global, event);
+        called_tools(&self.callbacks, event.event, tools)
     }
 
     /// Whether an event is delivered to a tool.

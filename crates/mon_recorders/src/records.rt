@@ -1,6 +1,6 @@
 //! The records of a thread.
 
-ghost use Rattle.std.specs.Prelude.{◌≡◌, ◌+◌, ◌≤◌, ◌++◌, List, OnOk, OnErr};
+ghost use Rattle.std.specs.Prelude.{◌≡◌, ◌+◌, ◌≤◌, ◌++◌, OnOk, OnErr, IfOk};
 ghost use Rattle.std.specs.Vec.{vec_len, vec_capacity};
 ghost use Rattle.mon_words.specs.Words.{is_bit};
 ghost use Rattle.mon_recorders.specs.Happenings.{for_tools};
@@ -65,7 +65,7 @@ impl Model for Records {
 // Keeps the values of an event, where it has some; their place.
 fn keep(values: &mut Vec<Values>, event: &Happening) -> Result<u32, AllocError>
     ensures ok { OnOk result (spec.Grown values.old.items values.new.items) }
-    ensures place { spec.IsPlaced result values.new.items event.now.first event.now.second }
+    ensures place { IfOk result (λ place. spec.Placed place values.new.items event.now.first event.now.second) }
     ensures err { OnErr result (values.new.items ≡ values.old.items) }
 {
     if event.first.is_absent() && event.second.is_absent() {
