@@ -1,5 +1,8 @@
 -- Records as they are kept: what is added at the end changes none before it.
-use Rattle.std.proofs.Common.{◌≡◌, ℕ, zero, suc, ◌+◌, ◌≤◌, Bool, cond, List, [], ◌∷◌, ◌++◌, map, length, get_or, refl, sym, ap, ◌∙◌, subst, arith, length-append, true, false}
+use Rattle.std.proofs.Common.{◌≡◌, ℕ, zero, suc, ◌+◌, ◌≤◌, Bool, cond, List, [], ◌∷◌, ◌++◌, map, length, get_or, refl, sym, ap, ◌∙◌, subst, arith, length-append, append-nil, true, false, eqb, ◌<◌, ◌/◌, ◌%◌, ◌^◌}
+use Rattle.std.specs.Int.{bit_at}
+use Rattle.std.proofs.lemmas.Nat.{div-add-mod'}
+use Rattle.std.proofs.lemmas.Nat.Bits.{bit_at_cat_low, bit_at-zero}
 use Rattle.std.proofs.lemmas.List.{map-append, get_or_append_left}
 use Rattle.std.specs.List.{AllByRecursion}
 use Rattle.mon_recorders.specs.declared.happening.Happening.{Happening}
@@ -7,6 +10,8 @@ use Rattle.mon_recorders.specs.declared.record.Record.{Record}
 use Rattle.mon_recorders.specs.declared.records.Entry.{Entry}
 use Rattle.mon_recorders.specs.declared.records.Values.{Values}
 use Rattle.mon_recorders.specs.Happenings.{for_tools, record_of}
+use Rattle.mon_words.specs.Words.{is_bit}
+use Rattle.mon_recorders.proofs.Folds.{for_tools_never}
 use Rattle.mon_recorders.specs.Kept.{absent, values_at, kept, AreKept, for_tool, Grown, Placed}
 
 values_same : (vs more : List Values) (n : ℕ) → n ≤ length vs → values_at (vs ++ more) n ≡ values_at vs n
@@ -69,18 +74,11 @@ records_pushed vs ws es step place event test g h p =
     map-append (kept ws) es (for_tools test (for_tool e) 6) ∙ (λ i. x i ++ y i)
 
 -- where no bit of a tool is set
-pub kept_none : (place : ℕ) (vs : List Values) (first second : List ℕ) → place ≡ 0 → first ≡ [] → second ≡ [] → Placed place vs first second
-kept_none place vs first second e f s = record {
-  within = omega (arith, e);
-  are = ap (values_at vs) e ∙ (λ i. record { first = sym f i; second = sym s i });
-}
+bit_of_rest : (n t : ℕ) → t < 6 → bit_at (n % 2 ^ 6) t ≡ bit_at n t
+bit_of_rest n t h = sym (bit_at_cat_low (n / 2 ^ 6) 6 (n % 2 ^ 6) t h) ∙ ap (λ (z : ℕ). bit_at z t) (div-add-mod' n (2 ^ 6))
 
-placed_last : (vs : List Values) (v : Values) → get_or (vs ++ v ∷ []) (length vs) absent ≡ v
-placed_last [] v = refl
-placed_last (x ∷ xs) v = placed_last xs v
+no_tool : (n t : ℕ) → n % 64 ≡ 0 → t < 6 → is_bit n t ≡ false
+no_tool n t e h = ap (λ (z : ℕ). eqb z 1) (sym (bit_of_rest n t h) ∙ (ap (λ (z : ℕ). bit_at z t) e ∙ bit_at-zero t))
 
-pub kept_last : (place : ℕ) (vs ws : List Values) (v : Values) → place ≡ suc (length vs) → ws ≡ vs ++ v ∷ [] → Placed place ws v.first v.second
-kept_last place vs ws v e is = record {
-  within = omega (arith, e, ap length is, length-append vs (v ∷ []));
-  are = (λ i. values_at (is i) (e i)) ∙ placed_last vs v;
-}
+pub none_pushed : (rs : List Record) (tools : ℕ) (make : ℕ → Record) → tools % 64 ≡ 0 → rs ≡ rs ++ for_tools (is_bit tools) make 6
+none_pushed rs tools make e = sym (ap (λ z. rs ++ z) (for_tools_never (is_bit tools) make 6 (λ t h. no_tool tools t e h)) ∙ append-nil rs)

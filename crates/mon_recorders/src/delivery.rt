@@ -1,10 +1,8 @@
-ghost use Rattle.std.specs.Prelude.{◌≡◌};
-
 use mon_events::Event;
 use std::marker::Model;
 
 /// One delivery of an event to a tool, read where it is kept. Contracts see it as its [`Record`](crate::Record).
-#[derive(Clone, Copy, Debug)]
+#[derive(Debug, Drop)]
 pub struct Delivery<'a> {
     pub(crate) step: u64,
     pub(crate) tool: u8,
@@ -28,6 +26,8 @@ impl<'a> Model for Delivery<'a> {
 }
 
 impl<'a> Delivery<'a> {
+    ghost use Rattle.std.specs.Prelude.{◌≡◌};
+
     /// The number of the step in its thread, counted from 0.
     pub fn step(&self) -> u64
         ensures { result ≡ self.now.step }

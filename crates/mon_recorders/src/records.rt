@@ -83,7 +83,7 @@ fn keep(values: &mut Vec<Values>, event: &Happening) -> Result<u32, AllocError>
 }
 
 // The entry once for each of the tools, in ascending order.
-#[tactic(auto, using(std::proofs::lemmas::Grind::common_steps, mon_recorders::proofs::Folds::for_tools_none, mon_recorders::proofs::Folds::for_tools_more))]
+#[tactic(auto, using(std::proofs::lemmas::Grind::common_steps, crate::proofs::Folds::for_tools_none, crate::proofs::Folds::for_tools_more))]
 fn push_entries(entries: &mut Vec<Entry>, entry: Entry, tools: u8)
     requires { vec_len entries.old + 6 ≤ vec_capacity entries.old }
     ensures { entries.new.items ≡ entries.old.items ++ for_tools (is_bit tools) (spec.for_tool entry) 6 }
