@@ -4,6 +4,7 @@ use Rattle.mon_words.specs.Words.{cell_of, form, need}
 use Rattle.mon_words.specs.Told.{Told, Grows}
 use Rattle.mon_words.specs.declared.tally.Load.{Load}
 use Rattle.mon_words.specs.History.{after}
+use Rattle.mon_words.specs.declared.history.Board.{Board}
 use Rattle.mon_words.specs.declared.history.Mark.{Mark}
 use Rattle.mon_recorders.specs.declared.happening.Happening.{Happening}
 use Rattle.mon_recorders.specs.declared.happening.Kind.{Kind}
@@ -12,7 +13,7 @@ use Rattle.mon_recorders.specs.declared.record.Disabled.{Disabled}
 use Rattle.mon_recorders.specs.Happenings.{delivered, answers, records_in, disables_in, is_global_kind}
 use Rattle.mon_recorders.specs.Readings.{OneStep}
 use Rattle.mon_recorders.specs.Boards.{let_through, mark_of, reader}
-use Rattle.mon_hear.specs.Words.{loads}
+use Rattle.mon_hear.specs.Words.{callback_loads, loads}
 
 -- disables alone
 pub record Disabling (a b : Told) (marks : List Mark) : Type 0 where
@@ -83,3 +84,10 @@ pub record UnwindingHeard (i : ℕ) (events : List Happening) (a b : Told) (old_
   pub records : List Record
   pub records_are : new_records ≡ old_records ++ records
   pub step : OneStep (reader a.number a.first) events i (length a.seen) a.seen b.seen records []
+
+-- by this board nothing is heard of these events and none is answered, and no callback word is due for them
+pub record Unheard (b : Board) (word global : ℕ) (events : List Happening) : Type 0 where
+  pub records : (i : ℕ) → records_in (let_through b) i events ≡ []
+  pub disables : (i : ℕ) → disables_in (let_through b) i events ≡ []
+  pub marks : (t : ℕ) → delivered (answers (let_through b)) (mark_of t) events ≡ []
+  pub loads : callback_loads word global events 6 ≡ []
