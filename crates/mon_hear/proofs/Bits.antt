@@ -1,9 +1,9 @@
 -- Bits of words, and of sets of tools.
-use Rattle.std.proofs.Common.{◌≡◌, ℕ, zero, suc, ◌+◌, ◌*◌, ◌/◌, ◌%◌, ◌^◌, ◌<◌, ◌≤◌, min, max, Bool, true, false, ◌&&◌, ◌||◌, eqb, List, [], ◌∷◌, ◌++◌, length, take, get_or, refl, sym, ap, ◌∙◌, subst, arith, bit_and, bit_or}
+use Rattle.std.proofs.Common.{◌≡◌, ℕ, zero, suc, ◌+◌, ◌*◌, ◌/◌, ◌%◌, ◌^◌, ◌<◌, ◌≤◌, min, max, Bool, true, false, ◌&&◌, ◌||◌, eqb, cond, List, [], ◌∷◌, ◌++◌, length, take, get_or, refl, sym, ap, ◌∙◌, subst, arith, bit_and, bit_or}
 use mathlib.Core.Logic.{dite, ◌≢◌}
 use native.Mathlib.Decide.{ℕ_discrete}
 use Rattle.std.specs.Int.{bit_at}
-use Rattle.std.specs.Width.{Width, w8}
+use Rattle.std.specs.Int.{w8}
 use Rattle.std.proofs.lemmas.Nat.{pow-add, div-add-mod'}
 use Rattle.std.proofs.lemmas.Nat.Bits.{bit_at_cat_low, bit_at_and, bit_at_or, bit_at-lt, bit_at-zero, bit_at_set_same, bit_at_set_other}
 use Rattle.std.proofs.Math.Nat.{div-div-eq-div-mul}
@@ -66,7 +66,7 @@ chosen_none P = record {
   above = λ t h. no_bit t;
 }
 
-pub chosen_more : (P : ℕ → Bool) (k m : ℕ) → k < 6 → Chosen P k m → P k ≡ true → Chosen P (k + 1) (bit_or m (1 * 2 ^ k % 256))
+chosen_more : (P : ℕ → Bool) (k m : ℕ) → k < 6 → Chosen P k m → P k ≡ true → Chosen P (k + 1) (bit_or m (1 * 2 ^ k % 256))
 chosen_more P k m h c p = record {
   below = λ t l. dite (ℕ_discrete t k)
       (λ is. ap (λ j. is_bit (bit_or m (1 * 2 ^ k % 256)) j) is ∙ (ap (λ (z : ℕ). eqb z 1) (bit_at_set_same w8 m k (omega (arith, h))) ∙ (sym p ∙ ap P (sym is))))
@@ -74,13 +74,20 @@ chosen_more P k m h c p = record {
   above = λ t l. ap (λ (z : ℕ). eqb z 1) (bit_at_set_other w8 m k (omega (arith, h)) t (λ is. absurd (omega (arith, l, is)))) ∙ c.above t (omega (arith, l));
 }
 
-pub chosen_not : (P : ℕ → Bool) (k m : ℕ) → Chosen P k m → P k ≡ false → Chosen P (k + 1) m
+chosen_not : (P : ℕ → Bool) (k m : ℕ) → Chosen P k m → P k ≡ false → Chosen P (k + 1) m
 chosen_not P k m c p = record {
   below = λ t l. dite (ℕ_discrete t k)
       (λ is. ap (λ j. is_bit m j) is ∙ (c.above k (omega arith) ∙ (sym p ∙ ap P (sym is))))
       (λ ne. c.below t (omega (arith, l, ne)));
   above = λ t l. c.above t (omega (arith, l));
 }
+
+chosen_next : (P : ℕ → Bool) (k m : ℕ) (b : Bool) → k < 6 → Chosen P k m → P k ≡ b → Chosen P (k + 1) (cond b (bit_or m (1 * 2 ^ k % 256)) m)
+chosen_next P k m true h c p = chosen_more P k m h c p
+chosen_next P k m false h c p = chosen_not P k m c p
+
+pub chosen_with : (P : ℕ → Bool) (k m n : ℕ) (b : Bool) → k < 6 → Chosen P k m → P k ≡ b → n ≡ cond b (bit_or m (1 * 2 ^ k % 256)) m → Chosen P (k + 1) n
+chosen_with P k m n b h c p is = subst (Chosen P (k + 1)) (sym is) (chosen_next P k m b h c p)
 
 or_assoc : (x y z : Bool) → ((x || y) || z) ≡ (x || (y || z))
 or_assoc true y z = refl

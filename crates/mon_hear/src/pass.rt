@@ -3,7 +3,7 @@
 ghost use Rattle.std.specs.Prelude.{◌≡◌, ◌<◌, ◌++◌, ◌∷◌, ℕ, List, OnOk, IsTrue, [], length, None, false};
 ghost use Rattle.mon_words.specs.Words.{cell_of, Quiet};
 ghost use Rattle.mon_words.specs.History.{after, cell_at};
-ghost use Rattle.mon_words.specs.Told.{Told, Grows, Owns};
+ghost use Rattle.mon_words.specs.Told.{Told as ToldOf, Grows, Owns};
 ghost use Rattle.mon_words.specs.declared.tally.Load.{Load};
 ghost use Rattle.mon_recorders.specs.declared.happening.Happening.{Happening as HappeningOf};
 ghost use Rattle.mon_recorders.specs.declared.record.Record.{Record as RecordOf};
@@ -55,7 +55,7 @@ pub fn pass_unwinding<H: Handle>(handle: &mut H) -> Option<u64>
     if global == 0 { None } else { Some(global) }
 }
 
-/// Hears the events of a step that has no location, by the global word that was loaded just now.
+/// Hears the events of a step that has no location, by the global word in hand.
 pub fn hear_unwinding_asked<H: Handle>(
     handle: &mut H,
     global: u64,
@@ -64,10 +64,8 @@ pub fn hear_unwinding_asked<H: Handle>(
     records: &mut Records,
 ) -> Result<(), AllocError>
     requires attached { IsTrue (H.told handle.old).attached }
-    requires owns { Owns (H.told handle.old) }
     requires global { spec.AreGlobal events.now }
-    requires loaded { global ≡ (after (H.told handle.old).first (H.told handle.old).seen).global }
-    ensures heard { OnOk result (spec.UnwindingHeard step events.now (H.told handle.old) (H.told handle.new) records.old records.new) }
+    ensures heard { OnOk result ((a : ToldOf) → Owns a → Grows a (H.told handle.old) [] → (IsTrue (any_global events.now) → global ≡ (after a.first a.seen).global) → spec.UnwindingHeard step events.now a (H.told handle.new) records.old records.new) }
     ensures loaded { (H.told handle.new).tally.loads ≡ (H.told handle.old).tally.loads ++ callback_loads 0 global events.now 6 }
     ensures grows { Grows (H.told handle.old) (H.told handle.new) [] }
     ensures same { (H.told handle.new).tally.retirements ≡ (H.told handle.old).tally.retirements }
@@ -93,8 +91,7 @@ pub fn hear_unwinding<H: Handle>(
     ensures rest { H.rest handle.new ≡ H.rest handle.old }
 {
     let global = load_global_due(handle, events);
-    let words = load_words(handle, 0, global, events);
-    record_events(&words, step, events, records)
+    hear_unwinding_asked(handle, global, step, events, records)
 }
 
 /// Hears a step at a location where nothing is enabled, by its global events.

@@ -3,10 +3,10 @@
 ghost use Rattle.std.specs.Prelude.{◌≡◌, ◌<◌, ◌++◌, ℕ, List, OnOk, IsTrue, [], length};
 ghost use Rattle.mon_words.specs.Words.{cell_of};
 ghost use Rattle.mon_words.specs.History.{after, cell_at};
-ghost use Rattle.mon_words.specs.Told.{Told, Grows, Owns};
+ghost use Rattle.mon_words.specs.Told.{Told as ToldOf, Grows, Owns};
 ghost use Rattle.mon_words.specs.declared.history.Mark.{Mark as MarkOf};
 ghost use Rattle.mon_recorders.specs.Boards.{AreAt};
-ghost use Rattle.mon_hear.specs.Words.{any_global, callback_loads, loads};
+ghost use Rattle.mon_hear.specs.Words.{callback_loads, loads};
 ghost use Rattle.mon_hear.specs.Hearing as spec;
 
 use crate::act::{answer_events, record_events};
@@ -30,8 +30,8 @@ pub fn retire_due<H: Handle>(handle: &mut H, location: u32, word: u64)
     }
 }
 
-/// Hears the events of a step at a location whose word was loaded just now, and the global word with it if one of them is
-/// enabled by that: each event goes to the tools for which these words and the tool's callback word let it through. Of the
+/// Hears the events of a step at a location by the words in hand: the location's, and the global one where an event is
+/// enabled by it. Each event goes to the tools for which these words and the tool's callback word let it through; of the
 /// callback words those alone are loaded for which an event is enabled.
 pub fn hear_asked<H: Handle>(
     handle: &mut H,
@@ -46,9 +46,7 @@ pub fn hear_asked<H: Handle>(
     requires attached { IsTrue (H.told handle.old).attached }
     requires within { location < length (H.told handle.old).first.cells }
     requires here { AreAt location events.now }
-    requires loaded { cell_of word ≡ cell_at (after (H.told handle.old).first (H.told handle.old).seen) location }
-    requires global { IsTrue (any_global events.now) → global ≡ (after (H.told handle.old).first (H.told handle.old).seen).global }
-    ensures heard { OnOk result (spec.Heard step events.now (H.told handle.old) (H.told handle.new) records.old records.new disables.old disables.new) }
+    ensures heard { OnOk result ((a : ToldOf) → spec.InHand a (H.told handle.old) location word global events.now → spec.Heard step events.now a (H.told handle.new) records.old records.new disables.old disables.new) }
     ensures retired { OnOk result (spec.Retiring (H.told handle.old) (H.told handle.new) location word) }
     ensures loaded { (H.told handle.new).tally.loads ≡ (H.told handle.old).tally.loads ++ callback_loads word global events.now 6 }
     ensures stays { (m : List MarkOf) × Grows (H.told handle.old) (H.told handle.new) m }

@@ -1,10 +1,10 @@
 //! The words by which a step is heard, each loaded at most once.
 
-ghost use Rattle.std.specs.Prelude.{◌≡◌, ◌<◌, ◌+◌, ◌++◌, ◌∷◌, ◌&&◌, ◌==◌, bit_and, cond, not, false, ℕ, List, IsTrue, [], length, slice_index};
+ghost use Rattle.std.specs.Prelude.{◌≡◌, ◌<◌, ◌+◌, ◌++◌, ◌∷◌, ◌&&◌, ◌==◌, ◌*◌, ◌%◌, ◌^◌, bit_and, bit_or, cond, not, false, ℕ, List, IsTrue, [], length, slice_index};
 ghost use Rattle.mon_events.specs.Events.{rank};
 ghost use Rattle.mon_words.specs.Words.{cell_of, is_bit, is_enabled, is_wanted, is_called, is_once};
 ghost use Rattle.mon_words.specs.History.{after};
-ghost use Rattle.mon_words.specs.Told.{Told, Grows};
+ghost use Rattle.mon_words.specs.Told.{Told as ToldOf, Grows};
 ghost use Rattle.mon_words.specs.declared.tally.Load.{Load};
 ghost use Rattle.mon_recorders.specs.Happenings.{for_tools};
 ghost use Rattle.mon_recorders.specs.Boards.{is_enabled_by, let_through, AreReadBy};
@@ -78,15 +78,29 @@ fn enabled_tools(word: u64, global: u64, event: &Happening) -> u8
     }
 }
 
+// The tools with one more, if it is chosen.
+fn with_tool(tools: u8, tool: u8, is_chosen: bool) -> u8
+    requires { tool < 6 }
+    ensures { result ≡ cond is_chosen (bit_or tools (1 * 2 ^ tool % 256)) tools }
+{
+    if is_chosen { tools | 1 << tool } else { tools }
+}
+
+// Whether a tool is one of these, and its callback word has a policy for an event.
+fn is_called_by(callbacks: &[u64; 6], event: Event, tools: u8, tool: u8) -> bool
+    requires { tool < 6 }
+    ensures { result ≡ (is_bit tools tool && is_called (slice_index callbacks.now tool) event) }
+{
+    has_bit(u64::from(tools), tool) && called(callbacks[tool as usize], event)
+}
+
 // Of these tools, those whose callback word has a policy for an event.
 fn called_tools(callbacks: &[u64; 6], event: Event, tools: u8) -> u8
     ensures { (tool : ℕ) → tool < 6 → is_bit result tool ≡ (is_bit tools tool && is_called (slice_index callbacks.now tool) event) }
 {
     let mut called_by = 0u8;
     for tool in 0..6u8 {
-        if has_bit(u64::from(tools), tool) && called(callbacks[tool as usize], event) {
-            called_by |= 1 << tool;
-        }
+        called_by = with_tool(called_by, tool, is_called_by(callbacks, event, tools, tool));
     }
     called_by
 }
@@ -110,10 +124,8 @@ impl Words {
         requires { tool < 6 }
         ensures { result ≡ (spec.filter self.now).hears tool event.now }
     {
-        has_bit(
-            u64::from(enabled_tools(self.word, self.global, event)),
-            tool,
-        ) && called(self.callbacks[tool as usize], event.event)
+        let tools = enabled_tools(self.word, self.global, event);
+        is_called_by(&self.callbacks, event.event, tools, tool)
     }
 
     /// Whether it is answered by a disable.
@@ -211,13 +223,11 @@ fn load_callbacks<H: Handle>(handle: &mut H, tools: u8) -> [u64; 6]
     callbacks
 }
 
-/// The words by which events are heard, where the global word was loaded if one of them is enabled by it: they let through
-/// what the board of the history does.
+/// The words by which events are heard, two of which are in hand. They let through what the board does for which those two
+/// stand.
 pub fn load_words<H: Handle>(handle: &mut H, word: u64, global: u64, events: &[Happening]) -> Words
     requires attached { IsTrue (H.told handle.old).attached }
-    requires here { AreReadBy (after (H.told handle.old).first (H.told handle.old).seen) word events.now }
-    requires global { IsTrue (spec.any_global events.now) → global ≡ (after (H.told handle.old).first (H.told handle.old).seen).global }
-    ensures agree { spec.Agree (let_through (after (H.told handle.old).first (H.told handle.old).seen)) (spec.filter result) events.now }
+    ensures agree { (a : ToldOf) → Grows a (H.told handle.old) [] → AreReadBy (after a.first a.seen) word events.now → (IsTrue (spec.any_global events.now) → global ≡ (after a.first a.seen).global) → spec.Agree (let_through (after a.first a.seen)) (spec.filter result) events.now }
     ensures grows { Grows (H.told handle.old) (H.told handle.new) [] }
     ensures same { (H.told handle.new).tally.retirements ≡ (H.told handle.old).tally.retirements }
     ensures loaded { (H.told handle.new).tally.loads ≡ (H.told handle.old).tally.loads ++ spec.callback_loads word global events.now 6 }

@@ -4,4 +4,4 @@ use Rattle.mon_hear.proofs.Bits.{Chosen}
 use Rattle.mon_hear.proofs.words.called_tools.Given as goal
 
 abbrev pub invariant-loop-tool : goal.invariant-loop-tool
-invariant-loop-tool l = Chosen (λ t. is_bit l.tools t && is_called (get_or l.callbacks t 0) l.event) l.tool l.called_by
+invariant-loop-tool l = Chosen (λ t. is_bit l.fn.tools t && is_called (get_or l.fn.callbacks t 0) l.fn.event) l.tool l.called_by
