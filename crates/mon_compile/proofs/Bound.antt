@@ -74,7 +74,7 @@ full most names (n ∷ ns) h =
     ap (λ (b : Bool). if b || is_local names n then few_names most names ns else few_names most (names ++ n ∷ []) ns) e ∙ full most names ns h
 
 -- no name goes
-kept : (names more : Names) → length names ≤ length (with_names names more)
+pub kept : (names more : Names) → length names ≤ length (with_names names more)
 kept names [] = omega arith
 kept names (n ∷ ns) =
     elim (is_local names n) as (λ known. length names ≤ length (if known then with_names names ns else with_names (names ++ n ∷ []) ns))
