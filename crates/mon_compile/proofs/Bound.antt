@@ -74,7 +74,7 @@ full most names (n ∷ ns) h =
     ap (λ (b : Bool). if b || is_local names n then few_names most names ns else few_names most (names ++ n ∷ []) ns) e ∙ full most names ns h
 
 -- no name goes
-pub kept : (names more : Names) → length names ≤ length (with_names names more)
+kept : (names more : Names) → length names ≤ length (with_names names more)
 kept names [] = omega arith
 kept names (n ∷ ns) =
     elim (is_local names n) as (λ known. length names ≤ length (if known then with_names names ns else with_names (names ++ n ∷ []) ns))
@@ -116,3 +116,7 @@ pub many_locals : (most : ℕ) (f : Function) (start names : Names) (body : List
 many_locals most f start names body es eb is h =
     let e : names ≡ few_names most f.parameters (of_block f.body) = is ∙ ap (λ (l : Names). few_names most l (of_block body)) es ∙ ap (λ (l : List Statement). few_names most f.parameters (of_block l)) eb in
     over_all most f.parameters (of_block f.body) (subst (λ (l : Names). most < length l) e h)
+
+-- the parameters are among them
+pub parameters_few : (f : Function) → length f.parameters ≤ length (locals_of f)
+parameters_few f = kept f.parameters (of_block f.body)

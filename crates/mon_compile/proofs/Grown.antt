@@ -1,13 +1,19 @@
 -- Code grows, and that of an expression has one instruction at least.
-use Rattle.std.proofs.Common.{◌≡◌, ℕ, ◌+◌, ◌<◌, ◌≤◌, List, [], ◌∷◌, ◌++◌, length, map, sym, ap, ◌∙◌, subst, arith, length-append}
+use Rattle.std.proofs.Common.{◌≡◌, ℕ, ◌+◌, ◌<◌, ◌≤◌, List, [], ◌∷◌, ◌++◌, length, map, refl, sym, ap, ◌∙◌, subst, arith, length-append}
+use Rattle.std.specs.Prelude.{Result, Ok, Err}
+use Rattle.std.specs.Result.{IsErrAnd}
 use Rattle.mon_trees.specs.declared.tree.Expression.{Expression}
 use Rattle.mon_trees.specs.declared.tree.Expression.TheOpen.{Expression-F}
 use Rattle.mon_trees.specs.declared.tree.Expression.TheFolds.{fold-roll-Expression, ind-Expression, map-Expression}
 use Rattle.mon_trees.specs.declared.tree.Expression.TheViews.{roll-Expression}
+use Rattle.mon_trees.specs.declared.tree.Targets.{Targets}
+use Rattle.mon_trees.specs.declared.tree.Targets.TheVariants as targets
 use Rattle.mon_compile.specs.declared.assembly.Instruction.{Instruction}
+use Rattle.mon_compile.specs.declared.emitter.EmitFault.{EmitFault}
+use Rattle.mon_compile.specs.declared.emitter.EmitFault.TheVariants.{TooManyLocations, Memory}
 use Rattle.mon_compile.specs.Contexts.{FromAt, Spot, above}
-use Rattle.mon_compile.specs.Emission.{Emission, emitted}
-use Rattle.mon_compile.specs.Expressions.{Coder, Locals, in_turn, or_none, expression_step, expression_code}
+use Rattle.mon_compile.specs.Emission.{Counts, Emission, Emits, emitted}
+use Rattle.mon_compile.specs.Expressions.{Coder, Locals, in_turn, or_none, store_names, store_code, expression_step, expression_code}
 
 -- what stands behind something
 behind : (a c : List Instruction) → 0 < length c → 0 < length (a ++ c)
@@ -62,3 +68,20 @@ grown_one e e' locals x s is = omega (arith, size_of e e' (expression_code local
 
 pub grown_all : (e e' : Emission) (locals : Locals) (es : List Expression) (s : Spot) → e' ≡ emitted e (in_turn (map (expression_code locals) es) s) → length e.code + length es ≤ length e'.code
 grown_all e e' locals es s is = omega (arith, size_of e e' (in_turn (map (expression_code locals) es) s) is, turn_size locals es s (length e.code))
+
+-- the names of a tuple
+names_size : (locals : Locals) (ns : List (List ℕ)) (s : Spot) → length (store_names locals ns s) ≡ length ns
+names_size locals [] s = refl
+names_size locals (n ∷ ns) s = omega (arith, names_size locals ns s)
+
+tuple_size : (locals : Locals) (t : Targets) (ns : List (List ℕ)) (s : Spot) → t ≡ targets.Tuple ns → length ns < length (store_code locals t s)
+tuple_size locals t ns s is = rw is (omega (arith, names_size locals ns s))
+
+-- names that are more than the limit make the code too long
+pub names_stop : (r : Result (Unit {0}) EmitFault) (fault : EmitFault) (e e' : Emission) (t : Targets) (ns : List (List ℕ)) (n : ℕ) (s : Spot) → IsErrAnd r (λ f. f ≡ fault) → t ≡ targets.Tuple ns → n ≡ length ns → Counts (Err fault) e.limit n → Emits r e e' (λ at. store_code e.locals t s)
+names_stop (Ok done) fault e e' t ns n s is of size full = absurd is
+names_stop (Err f) fault e e' t ns n s is of size full = let P : EmitFault → Type 0 = λ x. Emits (Err x) e e' (λ at. store_code e.locals t s) in subst P (sym is) (stopped fault full)
+  where
+    stopped : (fault : EmitFault) → Counts (Err fault) e.limit n → Emits (Err fault) e e' (λ at. store_code e.locals t s)
+    stopped TooManyLocations full = omega (arith, full, size, tuple_size e.locals t ns s of, length-append e.code (store_code e.locals t s))
+    stopped Memory full = tt

@@ -6,17 +6,33 @@ use Rattle.mon_compile.specs.Emission.{emitted}
 use Rattle.mon_compile.specs.Expressions as scheme
 use Rattle.mon_compile.proofs.Nodes.{nodes_within}
 use Rattle.mon_compile.proofs.Emissions.{frame_of, code_of, step, whole, stop, stop_one}
+use Rattle.mon_compile.proofs.Grown.{grown, grown_one, grown_all}
 use Rattle.mon_compile.proofs.ExpressionHoles.{short_written, conditional_written}
 use Rattle.mon_compile.proofs.Sizes.{two_size, short_size, conditional_size}
 use Rattle.mon_compile.proofs.Turns.{turn_next, called, call_written, method_written}
 use Rattle.mon_compile.proofs.emitter.Emitter.+expression.Goals as goal
 
+abbrev stack_of : Spot → ℕ
+stack_of s = s.stack
+
 pub expressions-expression-requires : goal.expressions-expression-requires
-expressions-expression-requires t c = (omega (arith, nodes_within _ _ _ c.loop-expression-test.true c.expression-item.is, c.decreases), tt)
+expressions-expression-requires t c = (omega (arith, nodes_within _ _ _ c.loop-expression-test.true c.expression-item.is, c.decreases), c.loop-expression.invariant.deep)
 
 pub expressions-loop-expression-preserved : goal.expressions-loop-expression-preserved
 expressions-loop-expression-preserved t c =
-    turn_next c.args.expressions.now _ _ _ _ c.loop-expression.self _ _ c.loop-expression-test.true c.expression-item.is c.above-up.ensures.spot c.in_ok-expression.ensures c.loop-expression.invariant
+    record {
+      made = turn_next c.args.expressions.now _ _ _ _ c.loop-expression.self _ _ c.loop-expression-test.true c.expression-item.is c.above-up.ensures.spot c.in_ok-expression.ensures c.loop-expression.invariant.made;
+      deep = omega (arith, ap stack_of c.above-up.ensures.spot, c.loop-expression.invariant.deep, grown_one _ _ _ _ _ c.in_ok-expression.ensures);
+    }
+
+pub tuple-count-count-requires : goal.tuple-count-count-requires
+tuple-count-count-requires t c = omega (arith, grown_all _ _ _ c.args.parts.now _ c.in_ok-expressions.ensures)
+
+pub arguments-count-values-requires : goal.arguments-count-values-requires
+arguments-count-values-requires t c = omega (arith, grown_all _ _ _ c.args.args.now _ c.in_ok-expressions.ensures)
+
+pub arguments-count-number-requires : goal.arguments-count-number-requires
+arguments-count-number-requires t c = omega (arith, c.requires.near, grown_all _ _ _ c.args.args.now _ c.in_ok-expressions.ensures)
 
 pub call-returns : goal.call-returns
 call-returns t c =

@@ -13,6 +13,7 @@ use Rattle.mon_compile.specs.Open.{open_step, open_context, inside, ending}
 use Rattle.mon_compile.specs.Statements as statements
 use Rattle.mon_compile.proofs.Clauses.{bare_of, clauses_last, clauses_next}
 use Rattle.mon_compile.proofs.Emissions.{frame_of, code_of, step, whole, stop, stop_one}
+use Rattle.mon_compile.proofs.Grown.{grown}
 use Rattle.mon_compile.proofs.Labels.{body_carries, clauses_carry}
 use Rattle.mon_compile.proofs.StatementLabels.{clauses_carrying}
 use Rattle.mon_compile.proofs.Loops.{while_settles, for_settles, try_settles, except_as_settles, inside_length, part_inside, ending_length, clauses_ending}
@@ -22,10 +23,10 @@ use Rattle.mon_compile.proofs.StatementHoles.{while_written, for_written, if_wri
 use Rattle.mon_compile.proofs.emitter.Emitter.+statement.Goals as goal
 
 pub block-statement-requires : goal.block-statement-requires
-block-statement-requires t c = (omega (arith, statement_within _ _ _ c.loop-statement-test.true c.statement-item.is, c.decreases), tt)
+block-statement-requires t c = (omega (arith, statement_within _ _ _ c.loop-statement-test.true c.statement-item.is, c.decreases), c.loop-statement.invariant.deep)
 
 pub each_clause-clause-requires : goal.each_clause-clause-requires
-each_clause-clause-requires t c = (omega (arith, handler_within _ _ _ c.loop-clause-test.true c.clause-item.is, c.decreases), tt)
+each_clause-clause-requires t c = (omega (arith, handler_within _ _ _ c.loop-clause-test.true c.clause-item.is, c.decreases), c.loop-clause.invariant.deep)
 
 pub while_body-returns : goal.while_body-returns
 while_body-returns t c =
@@ -179,9 +180,12 @@ each_clause-loop-clause-preserved t c =
     let rest = λ (z : Emission). emitted z (statements.clauses_code (map (statements.handler_code z.locals) (drop (c.loop-clause.clause-index + 1) clauses)) c.args.end context) in
     let piece = (statements.handler_code e.locals c.clause-item.result).code c.args.end context in
     let left = c.loop-clause.invariant.made in
-    ap rest c.in_ok-clause.ensures
-    ∙ whole s (rest (emitted e piece)) _ (ap frame_of left)
-    (clauses_next e.locals _ _ _ c.args.end _ e.code _ _ c.loop-clause-test.true c.clause-item.is refl (bare_of e.locals c.clause-item.result _ c.if-is_none.ensures) (ap code_of left))
+    record {
+      made = ap rest c.in_ok-clause.ensures
+          ∙ whole s (rest (emitted e piece)) _ (ap frame_of left)
+          (clauses_next e.locals _ _ _ c.args.end _ e.code _ _ c.loop-clause-test.true c.clause-item.is refl (bare_of e.locals c.clause-item.result _ c.if-is_none.ensures) (ap code_of left));
+      deep = omega (arith, c.loop-clause.invariant.deep, grown _ _ _ c.in_ok-clause.ensures);
+    }
 
 -- where a part is too long
 
