@@ -182,7 +182,7 @@ each_clause-loop-clause-preserved t c =
     let left = c.loop-clause.invariant.made in
     record {
       made = ap rest c.in_ok-clause.ensures
-          ∙ whole s (rest (emitted e piece)) _ (ap frame_of left)
+          ∙ whole s (rest (emitted e piece)) (emitted s (statements.clauses_code (map (statements.handler_code s.locals) clauses) c.args.end context)).code (ap frame_of left)
           (clauses_next e.locals _ _ _ c.args.end _ e.code _ _ c.loop-clause-test.true c.clause-item.is refl (bare_of e.locals c.clause-item.result _ c.if-is_none.ensures) (ap code_of left));
       deep = omega (arith, c.loop-clause.invariant.deep, grown _ _ _ c.in_ok-clause.ensures);
     }
@@ -198,7 +198,7 @@ while_body-returns-in_err-block t c =
     let here : within ≡ While c.args.start (EndOf (length (open_context context))) ∷ open_context context = ap open_context (sym (view.rolls-While c.args.start c.args.context)) ∙ fold-roll-Surroundings Context open_step (Surroundings-F.While c.args.start c.args.context) in
     let made = e.code ++ body within (length e.code) in
     let settled = part_inside body (λ g. body_carries g e.locals c.args.body.now) (While c.args.start) _ _ (while_settles c.args.start context) 1 _ _ e.code made (ap EndOf c.depth.ensures) c.here-from.ensures (ap (λ (z : Context). e.code ++ body z (length e.code)) here) in
-    stop _ _ e _ e _ (body within) _ c.from_residual-in_err-block.ensures.1 refl (omega (arith, changed_size _ _ _ _ settled)) c.in_err-block.ensures
+    stop _ _ e _ e _ (body within) _ c.from_residual.ensures.1 refl (omega (arith, changed_size _ _ _ _ settled)) c.in_err-block.ensures
 
 pub for_body-returns-in_err-block : goal.for_body-returns-in_err-block
 for_body-returns-in_err-block t c =
@@ -209,7 +209,7 @@ for_body-returns-in_err-block t c =
     let here : within ≡ For c.args.start (EndOf (length (open_context context))) ∷ open_context context = ap open_context (sym (view.rolls-For c.args.start c.args.context)) ∙ fold-roll-Surroundings Context open_step (Surroundings-F.For c.args.start c.args.context) in
     let made = e.code ++ body within (length e.code) in
     let settled = part_inside body (λ g. body_carries g e.locals c.args.body.now) (For c.args.start) _ _ (for_settles c.args.start context) 2 _ _ e.code made (ap EndOf c.depth.ensures) c.here-from.ensures (ap (λ (z : Context). e.code ++ body z (length e.code)) here) in
-    stop _ _ e _ e _ (body within) _ c.from_residual-in_err-block.ensures.1 refl (omega (arith, changed_size _ _ _ _ settled)) c.in_err-block.ensures
+    stop _ _ e _ e _ (body within) _ c.from_residual.ensures.1 refl (omega (arith, changed_size _ _ _ _ settled)) c.in_err-block.ensures
 
 pub try_body-returns-in_err-block : goal.try_body-returns-in_err-block
 try_body-returns-in_err-block t c =
@@ -220,7 +220,7 @@ try_body-returns-in_err-block t c =
     let here : within ≡ Try (HandlerOf (length (open_context context))) ∷ open_context context = ap open_context (sym (view.rolls-Try c.args.context)) ∙ fold-roll-Surroundings Context open_step (Surroundings-F.Try c.args.context) in
     let made = e.code ++ body within (length e.code) in
     let settled = part_inside body (λ g. body_carries g e.locals c.args.body.now) Try _ _ (try_settles context) 1 _ _ e.code made (ap HandlerOf c.depth.ensures) c.here-from.ensures (ap (λ (z : Context). e.code ++ body z (length e.code)) here) in
-    stop _ _ e _ e _ (body within) _ c.from_residual-in_err-block.ensures.1 refl (omega (arith, changed_size _ _ _ _ settled)) c.in_err-block.ensures
+    stop _ _ e _ e _ (body within) _ c.from_residual.ensures.1 refl (omega (arith, changed_size _ _ _ _ settled)) c.in_err-block.ensures
 
 pub named_body-returns-in_err-block : goal.named_body-returns-in_err-block
 named_body-returns-in_err-block t c =
@@ -231,7 +231,7 @@ named_body-returns-in_err-block t c =
     let here : within ≡ ExceptAs c.args.local (HandlerOf (length (open_context context))) ∷ open_context context = ap open_context (sym (view.rolls-ExceptAs c.args.local c.args.context)) ∙ fold-roll-Surroundings Context open_step (Surroundings-F.ExceptAs c.args.local c.args.context) in
     let made = e.code ++ body within (length e.code) in
     let settled = part_inside body (λ g. body_carries g e.locals c.args.body.now) (ExceptAs c.args.local) _ _ (except_as_settles c.args.local context) 3 _ _ e.code made (ap HandlerOf c.depth.ensures) c.here-from.ensures (ap (λ (z : Context). e.code ++ body z (length e.code)) here) in
-    stop _ _ e _ e _ (body within) _ c.from_residual-in_err-block.ensures.1 refl (omega (arith, changed_size _ _ _ _ settled)) c.in_err-block.ensures
+    stop _ _ e _ e _ (body within) _ c.from_residual.ensures.1 refl (omega (arith, changed_size _ _ _ _ settled)) c.in_err-block.ensures
 
 pub clauses-returns-in_err-each_clause : goal.clauses-returns-in_err-each_clause
 clauses-returns-in_err-each_clause t c =
@@ -239,7 +239,7 @@ clauses-returns-in_err-each_clause t c =
     let clauses = map (statements.handler_code e.locals) c.args.clauses.now in
     let part = statements.clauses_code clauses (EndOf c.depth.result) (open_context c.args.context.now) in
     let settled = clauses_ending (statements.clauses_code clauses) (λ g. clauses_carrying g clauses (clauses_carry g e.locals c.args.clauses.now)) c.args.context.now _ _ e.code (e.code ++ part (length e.code)) c.depth.ensures c.here-from.ensures refl in
-    stop _ _ e _ e _ part _ c.from_residual-in_err-each_clause.ensures.1 refl (omega (arith, changed_size _ _ _ _ settled)) c.in_err-each_clause.ensures
+    stop _ _ e _ e _ part _ c.from_residual.ensures.1 refl (omega (arith, changed_size _ _ _ _ settled)) c.in_err-each_clause.ensures
 
 pub while_loop-returns-in_err-while_body : goal.while_loop-returns-in_err-while_body
 while_loop-returns-in_err-while_body t c =
