@@ -182,9 +182,9 @@ each_clause-loop-clause-preserved t c =
     let left = c.loop-clause.invariant.made in
     record {
       made = ap rest c.in_ok-clause.ensures
-          ∙ whole s (rest (emitted e piece)) (emitted s (statements.clauses_code (map (statements.handler_code s.locals) clauses) c.args.end context)).code (ap frame_of left)
+          ∙ whole s (rest (emitted e piece)) _ (ap frame_of left)
           (clauses_next e.locals _ _ _ c.args.end _ e.code _ _ c.loop-clause-test.true c.clause-item.is refl (bare_of e.locals c.clause-item.result _ c.if-is_none.ensures) (ap code_of left));
-      deep = omega (arith, c.loop-clause.invariant.deep, grown _ _ _ c.in_ok-clause.ensures);
+      deep = omega (arith, c.loop-clause.invariant.deep, grown e c.clause.new.self piece c.in_ok-clause.ensures);
     }
 
 -- where a part is too long
