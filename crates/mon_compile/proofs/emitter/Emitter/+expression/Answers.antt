@@ -6,7 +6,7 @@ use Rattle.mon_compile.specs.Emission.{emitted}
 use Rattle.mon_compile.specs.Expressions as scheme
 use Rattle.mon_compile.proofs.Nodes.{nodes_within}
 use Rattle.mon_compile.proofs.Emissions.{frame_of, code_of, step, whole, stop, stop_one}
-use Rattle.mon_compile.proofs.Grown.{grown, grown_one, grown_all}
+use Rattle.mon_compile.proofs.Grown.{grown_one, grown_all}
 use Rattle.mon_compile.proofs.ExpressionHoles.{short_written, conditional_written}
 use Rattle.mon_compile.proofs.Sizes.{two_size, short_size, conditional_size}
 use Rattle.mon_compile.proofs.Turns.{turn_next, called, call_written, method_written}
