@@ -10,11 +10,15 @@ use Rattle.mon_forms.specs.Plans.{onto_last}
 use Rattle.mon_forms.specs.declared.plan.Move.{Move}
 use Rattle.mon_forms.specs.declared.plan.Workload.{Workload}
 
+some_below : (b : Bool) (n limit : ℕ) → (b ≡ true → n < limit) → IfSome (if b then Some n else None) (λ m. m < limit)
+some_below true n limit h = h refl
+some_below false n limit h = tt
+
 -- a number below a limit is below it
-pub below : (limit : ℕ) (r : Option ℤ) (n : ℕ) → if_below limit r ≡ Some n → n < limit
-below limit None n h = absurd cc
-below limit (Some (negsuc m)) n h = absurd cc
-below limit (Some (pos m)) n h = grind (arith, nat_tests)
+pub below_some : (limit : ℕ) (r : Option ℤ) → IfSome (if_below limit r) (λ n. n < limit)
+below_some limit None = tt
+below_some limit (Some (negsuc m)) = tt
+below_some limit (Some (pos n)) = some_below (nat_lt n limit) n limit (λ h. grind (arith, nat_tests))
 
 -- a move that fits still does where there are no fewer threads and scripts
 pub move_kept : (w v : Workload) → length w.threads ≤ length v.threads → length w.scripts ≤ length v.scripts → (m : Move) → FitsMove w m → FitsMove v m

@@ -24,6 +24,11 @@ Leaves (Err fault) new (Err kind) = IsFault fault kind
 Leaves (Err LineFault.Memory) new (Ok due) = Unit {0}
 Leaves (Err (LineFault.Faulty kind)) new (Ok due) = ⊥
 
+-- the fault of a line with this number
+abbrev pub fault_at : ℕ → LineFault → PlanFault
+fault_at line (LineFault.Faulty kind) = PlanFault.Faulty line kind
+fault_at line LineFault.Memory = PlanFault.Memory
+
 -- a plan's answer is the due one, or want of memory
 abbrev pub AnswersPlan : {A : Type 0} → Result A PlanFault → Result A PlanFault → Type 0
 AnswersPlan (Err PlanFault.Memory) due = Unit {0}

@@ -2,7 +2,10 @@
 use Rattle.std.specs.Prelude.{◌≡◌, ℕ, ◌+◌, ◌*◌, ◌<◌, ◌≤◌, List, [], ◌∷◌, length, All, slice_get, Option, Some}
 use Rattle.mon_code.specs.Programs.{Parts}
 use Rattle.mon_history.specs.declared.calls.ControlCall.{ControlCall}
+use Rattle.mon_values.specs.declared.value.Exc.{Exc}
 use Rattle.mon_values.specs.declared.value.Value.{Value}
+use Rattle.mon_values.specs.declared.value.Value.TheOpen.{Value-F}
+use Rattle.mon_values.specs.declared.value.Value.TheViews.{out-Value}
 use Rattle.mon_forms.specs.Heads.{section_number}
 use Rattle.mon_forms.specs.Plans.{parameters_of, plan_in}
 use Rattle.mon_forms.specs.declared.limits.TheConstants.{MAX_STEPS, MAX_ALL_STEPS, MAX_THREADS, MAX_SCRIPTS, MAX_CALLS, MAX_TEXT}
@@ -12,11 +15,14 @@ use Rattle.mon_forms.specs.declared.plan.Plan.{Plan}
 use Rattle.mon_forms.specs.declared.plan.Start.{Start}
 use Rattle.mon_forms.specs.declared.plan.Workload.{Workload}
 
+abbrev pub FitsArgument : Value-F Value Exc → Type 0
+FitsArgument (Value-F.Int n) = Unit {0}
+FitsArgument (Value-F.Text text) = length text ≤ MAX_TEXT
+FitsArgument _ = ⊥
+
 -- an integer, or a text that is not too long
 abbrev pub IsArgument : Value → Type 0
-IsArgument (Value.Int n) = Unit {0}
-IsArgument (Value.Text text) = length text ≤ MAX_TEXT
-IsArgument _ = ⊥
+IsArgument v = FitsArgument (out-Value v)
 
 pub record FitsStart (p : Parts) (start : Start) : Type 0 where
   pub code : start.code < length p.codes

@@ -1,5 +1,5 @@
 ghost use Rattle.std.specs.Prelude.{◌≡◌, IfOk};
-ghost use Rattle.mon_forms.specs.Answers.{AnswersPlan};
+ghost use Rattle.mon_forms.specs.Answers.{AnswersPlan, fault_at};
 ghost use Rattle.mon_forms.specs.Fits.{FitsProgram};
 ghost use Rattle.mon_forms.specs.Plans as spec;
 
@@ -12,7 +12,9 @@ use mon_code::Program;
 use std::alloc::Global;
 
 /// The fault of a line with this number.
-fn at_line(line: u32, fault: LineFault) -> PlanFault {
+fn at_line(line: u32, fault: LineFault) -> PlanFault
+    ensures { result ≡ fault_at line fault }
+{
     match fault {
         LineFault::Faulty(kind) => PlanFault::Faulty(line, kind),
         LineFault::Memory => PlanFault::Memory,
