@@ -1,5 +1,5 @@
 -- What the lines before have said keeps the limits, and still does with one line more.
-use Rattle.std.proofs.Common.{◌≡◌, ℕ, ℤ, pos, negsuc, ◌+◌, ◌*◌, ◌<◌, ◌≤◌, ◌==◌, nat_lt, nat_le, Bool, true, false, not, ◌||◌, List, [], ◌∷◌, ◌++◌, length, drop, slice_get, Option, Some, None, Result, Ok, Err, IfOk, IfSome, if◌then◌else◌, refl, sym, ap, ◌∙◌, subst, arith, rules, length-append}
+use Rattle.std.proofs.Common.{◌≡◌, ℕ, suc, ℤ, pos, negsuc, ◌+◌, ◌*◌, ◌<◌, ◌≤◌, ◌==◌, nat_lt, nat_le, Bool, true, false, not, ◌||◌, List, [], ◌∷◌, ◌++◌, length, drop, slice_get, Option, Some, None, Result, Ok, Err, IfOk, IfSome, if◌then◌else◌, refl, sym, ap, ◌∙◌, subst, arith, rules, length-append}
 use Rattle.std.specs.List.{All}
 use Rattle.std.proofs.lemmas.Bool.Decides.{nat_tests}
 use Rattle.std.proofs.lemmas.List.Elements.{All-nil, All-push}
@@ -37,7 +37,7 @@ one_more (script ∷ next ∷ scripts) call = omega (arith, one_more (next ∷ s
 pub as_many : (scripts : List (List ControlCall)) (call : ControlCall) → length (onto_last scripts call) ≡ length scripts
 as_many [] call = refl
 as_many (script ∷ []) call = refl
-as_many (script ∷ next ∷ scripts) call = ap (λ n. n + 1) (as_many (next ∷ scripts) call)
+as_many (script ∷ next ∷ scripts) call = ap suc (as_many (next ∷ scripts) call)
 
 -- a script without calls more
 pub none_more : (scripts : List (List ControlCall)) → calls_in (scripts ++ [] ∷ []) ≡ calls_in scripts

@@ -12,10 +12,10 @@ use Rattle.mon_values.specs.declared.value.Value.TheViews.{out-Value, the_lemmas
 use Rattle.mon_forms.specs.Answers.{Leaves}
 use Rattle.mon_forms.specs.Calls.{call_of}
 use Rattle.mon_forms.specs.Fits.{KeepsLimits, FitsProgram, FitsWorkload, FitsStart, FitsCall, FitsMove, FitsArgument, IsArgument, calls_in}
-use Rattle.mon_forms.specs.Heads.{section_number, has_form, may_follow, is_from_to, head_of}
-use Rattle.mon_forms.specs.Lines.{words_of, word_at, is_skipped, is_plain_line}
+use Rattle.mon_forms.specs.Heads.{section_number, may_follow, is_from_to}
+use Rattle.mon_forms.specs.Lines.{word_at}
 use Rattle.mon_forms.specs.Operands.{number_below, integer_of, quoted, argument_of, arguments_of, has_long_text, is_long, integer_or_text, and_arguments, report_of}
-use Rattle.mon_forms.specs.Plans.{plan_in, no_lines, with_steps, with_script, with_move, with_start, with_report, with_call, with_line, onto_section, onto_last, turn_of, call_move, start_of, passes_limit, has_all_threads, add_headed, add_line}
+use Rattle.mon_forms.specs.Plans.{plan_in, no_lines, with_steps, with_script, with_move, with_start, with_report, with_call, with_line, onto_section, onto_last, turn_of, call_move, start_of, passes_limit, has_all_threads}
 use Rattle.mon_forms.specs.declared.draft.Draft.{Draft}
 use Rattle.mon_forms.specs.declared.draft.LineFault.{LineFault}
 use Rattle.mon_forms.specs.declared.heads.Head.{Head}
@@ -32,10 +32,6 @@ use Rattle.mon_forms.proofs.Fitting.{below_some, moves_kept, one_more, as_many, 
 both_false : (a b : Bool) → (a || b) ≡ false → (a ≡ false) × (b ≡ false)
 both_false false b h = (refl, h)
 both_false true b h = absurd cc
-
-not_false : (b : Bool) → not b ≡ false → b ≡ true
-not_false true h = refl
-not_false false h = absurd cc
 
 test_lt : (a b : ℕ) → nat_le a b ≡ false → b < a
 test_lt a b h = grind (arith, nat_tests)
@@ -67,7 +63,7 @@ steps_keep p d (Some steps) few first k =
         workload = record {
           steps = omega arith; all_steps = rw none (omega arith); threads = w.threads; scripts = w.scripts; calls = w.calls;
           starts = w.starts; before_fits = w.before_fits; scripts_fit = w.scripts_fit };
-        schedule = moves_kept _ _ _ (omega arith) (omega arith) k.fits.schedule };
+        schedule = moves_kept (plan_in d).workload (record { steps = steps; threads = d.threads; before = d.before; scripts = d.scripts }) d.schedule (omega arith) (omega arith) k.fits.schedule };
       counted = k.counted; most = k.most; begun = λ _. none }
 
 script_keeps : (p : Parts) (d : Draft) → length d.scripts < MAX_SCRIPTS → KeepsLimits p d → KeepsLimits p (with_script d)
@@ -82,7 +78,7 @@ script_keeps p d h k =
           calls = omega (arith, w.calls, none_more d.scripts);
           starts = w.starts; before_fits = w.before_fits;
           scripts_fit = All-push (All (FitsCall p)) d.scripts [] w.scripts_fit (All-nil (FitsCall p)) };
-        schedule = moves_kept _ _ _ (omega arith) (omega arith) k.fits.schedule };
+        schedule = moves_kept (plan_in d).workload (record { steps = d.steps; threads = d.threads; before = d.before; scripts = d.scripts ++ [] ∷ [] }) d.schedule (omega arith) (omega arith) k.fits.schedule };
       counted = omega (arith, k.counted, none_more d.scripts);
       most = k.most;
       begun = λ l. absurd (omega arith) }
@@ -119,7 +115,7 @@ start_keeps p d start fits few all k =
           steps = w.steps; all_steps = subst (λ (n : ℕ). d.steps * n ≤ MAX_ALL_STEPS) (sym more) all; threads = omega arith;
           scripts = w.scripts; calls = w.calls;
           starts = All-push (FitsStart p) d.threads start w.starts fits; before_fits = w.before_fits; scripts_fit = w.scripts_fit };
-        schedule = moves_kept _ _ _ (omega arith) (omega arith) k.fits.schedule };
+        schedule = moves_kept (plan_in d).workload (record { steps = d.steps; threads = d.threads ++ start ∷ []; before = d.before; scripts = d.scripts }) d.schedule (omega arith) (omega arith) k.fits.schedule };
       counted = k.counted; most = k.most; begun = λ l. absurd (omega arith) }
 
 thread_keeps : (p : Parts) (d : Draft) (r : Result Start PlanKind) → IfOk r (FitsStart p) → has_all_threads d ≡ false → KeepsLimits p d → IfOk (with_start d r) (KeepsLimits p)
@@ -147,7 +143,7 @@ script_fits d (Some s) h = h
 report_keeps : (p : Parts) (d : Draft) (tool : Option ℕ) (kind : Option ReportKind) → KeepsLimits p d → IfOk (with_report d tool kind) (KeepsLimits p)
 report_keeps p d None kind k = tt
 report_keeps p d (Some tool) None k = tt
-report_keeps p d (Some tool) (Some kind) k = record { fits = k.fits; counted = k.counted; most = k.most; begun = λ l. absurd (omega arith) }
+report_keeps p d (Some tool) (Some kind) k = record { fits = record { workload = k.fits.workload; schedule = k.fits.schedule }; counted = k.counted; most = k.most; begun = λ l. absurd (omega arith) }
 
 onto_fits : (p : Parts) (scripts : List (List ControlCall)) (call : ControlCall) → FitsCall p call → All (All (FitsCall p)) scripts → All (All (FitsCall p)) (onto_last scripts call)
 onto_fits p [] call fits all = all
@@ -167,7 +163,7 @@ before_keeps p d call fits few k =
           steps = w.steps; all_steps = w.all_steps; threads = w.threads; scripts = w.scripts;
           calls = omega (arith, more, k.counted);
           starts = w.starts; before_fits = All-push (FitsCall p) d.before call w.before_fits fits; scripts_fit = w.scripts_fit };
-        schedule = moves_kept _ _ _ (omega arith) (omega arith) k.fits.schedule };
+        schedule = moves_kept (plan_in d).workload (record { steps = d.steps; threads = d.threads; before = d.before ++ call ∷ []; scripts = d.scripts }) d.schedule (omega arith) (omega arith) k.fits.schedule };
       counted = omega (arith, more, k.counted); most = omega (arith, few); begun = k.begun }
 
 onto_keeps : (p : Parts) (d : Draft) (call : ControlCall) → FitsCall p call → d.calls < MAX_CALLS → KeepsLimits p d → KeepsLimits p (record d { calls = d.calls + 1; scripts = onto_last d.scripts call })
@@ -180,7 +176,7 @@ onto_keeps p d call fits few k =
           steps = w.steps; all_steps = w.all_steps; threads = w.threads; scripts = omega (arith, same, w.scripts);
           calls = omega (arith, one_more d.scripts call, k.counted);
           starts = w.starts; before_fits = w.before_fits; scripts_fit = onto_fits p d.scripts call fits w.scripts_fit };
-        schedule = moves_kept _ _ _ (omega arith) (omega (arith, same)) k.fits.schedule };
+        schedule = moves_kept (plan_in d).workload (record { steps = d.steps; threads = d.threads; before = d.before; scripts = onto_last d.scripts call }) d.schedule (omega arith) (omega (arith, same)) k.fits.schedule };
       counted = omega (arith, one_more d.scripts call, k.counted); most = omega (arith, few); begun = k.begun }
 
 section_keeps : (p : Parts) (d : Draft) (call : ControlCall) (s : Section) → FitsCall p call → d.calls < MAX_CALLS → KeepsLimits p d → KeepsLimits p (onto_section d call s)
@@ -221,33 +217,12 @@ line_keeps p d Head.Report words named follows few k = report_keeps p d (number_
 line_keeps p d (Head.Control kind) words named follows few k =
     call_keeps p d (call_of p kind words) (call_fits p kind words named) (test_lt MAX_CALLS d.calls few) k
 
-unless : (p : Parts) (b : Bool) (kind : PlanKind) (r : Result Draft PlanKind) → (b ≡ false → IfOk r (KeepsLimits p)) → IfOk (if b then Err kind else r) (KeepsLimits p)
-unless p true kind r h = tt
-unless p false kind r h = h refl
-
-headed_keeps : (p : Parts) (d : Draft) (head : Option Head) (words : List (List ℕ)) → IsNamed p → KeepsLimits p d → IfOk (add_headed p d head words) (KeepsLimits p)
-headed_keeps p d None words named k = tt
-headed_keeps p d (Some head) words named k =
-    unless p (not (has_form head (length words))) PlanKind.Word _ (λ form.
-    unless p (not (may_follow head d.section)) PlanKind.Order _ (λ follows.
-    unless p (passes_limit d head words) PlanKind.TooMany _ (λ few.
-    line_keeps p d head words named (not_false (may_follow head d.section) follows) few k)))
-
-or_skipped : (p : Parts) (d : Draft) (b : Bool) (r : Result Draft PlanKind) → KeepsLimits p d → IfOk r (KeepsLimits p) → IfOk (if b then Ok d else r) (KeepsLimits p)
-or_skipped p d true r k h = k
-or_skipped p d false r k h = h
-
-add_keeps : (p : Parts) (d : Draft) (line : List ℕ) → IsNamed p → KeepsLimits p d → IfOk (add_line p d line) (KeepsLimits p)
-add_keeps p d line named k =
-    or_skipped p d (is_skipped (words_of line)) _ k
-    (unless p (not (is_plain_line line)) PlanKind.Word _ (λ plain.
-     headed_keeps p d (head_of (word_at 0 (words_of line))) (drop 1 (words_of line)) named k))
-
 left_keeps : (p : Parts) (result : Result (Unit {0}) LineFault) (new : Draft) (due : Result Draft PlanKind) → Leaves result new due → IfOk due (KeepsLimits p) → OnOk result (KeepsLimits p new)
 left_keeps p (Ok done) new (Ok due) left keeps = subst (KeepsLimits p) (sym left) keeps
 left_keeps p (Ok done) new (Err kind) left keeps = absurd left
 left_keeps p (Err fault) new due left keeps = tt
 
 -- what a line leaves keeps the limits
-pub line_leaves : (p : Parts) (d : Draft) (line : List ℕ) (result : Result (Unit {0}) LineFault) (new : Draft) → IsNamed p → KeepsLimits p d → Leaves result new (add_line p d line) → OnOk result (KeepsLimits p new)
-line_leaves p d line result new named k left = left_keeps p result new (add_line p d line) left (add_keeps p d line named k)
+pub line_leaves : (p : Parts) (d : Draft) (head : Head) (words : List (List ℕ)) (result : Result (Unit {0}) LineFault) (new : Draft) → IsNamed p → may_follow head d.section ≡ true → passes_limit d head words ≡ false → KeepsLimits p d → Leaves result new (with_line p d head words) → OnOk result (KeepsLimits p new)
+line_leaves p d head words result new named follows few k left =
+    left_keeps p result new (with_line p d head words) left (line_keeps p d head words named follows few k)

@@ -1,5 +1,6 @@
 pub mod Digits
 pub mod Arguments
+pub mod Calling
 pub mod Codes
 pub mod Fitting
 pub mod Keeping

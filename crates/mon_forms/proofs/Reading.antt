@@ -17,7 +17,7 @@ err_stays : (p : Parts) (n : ℕ) (fault : PlanFault) (lines : List (List ℕ)) 
 err_stays p n fault [] = refl
 err_stays p n fault (line ∷ lines) = refl
 
-faulty_line : (p : Parts) (number count : ℕ) (new : Draft) (fault : LineFault) (due : Result Draft PlanKind) (lines : List (List ℕ)) → Leaves (Err fault) new due → AnswersPlan (Err {T = Plan} (fault_at number fault)) (finished count (add_lines p (number + 1) (at_line number due) lines))
+faulty_line : (p : Parts) (number count : ℕ) (new : Draft) (fault : LineFault) (due : Result Draft PlanKind) (lines : List (List ℕ)) → Leaves (Err fault) new due → AnswersPlan {A = Plan} (Err (fault_at number fault)) (finished count (add_lines p (number + 1) (at_line number due) lines))
 faulty_line p number count new LineFault.Memory due lines h = tt
 faulty_line p number count new (LineFault.Faulty kind) (Ok d) lines h = absurd h
 faulty_line p number count new (LineFault.Faulty kind) (Err k) lines h =
@@ -29,10 +29,10 @@ of_lines p text answer small h =
     subst (λ (b : Bool). AnswersPlan answer (if b then Err (PlanFault.Faulty 0 PlanKind.TooMany) else plan_of_lines p (lines_of text))) (sym small) h
 
 -- a faulty line behind others that are not
-pub read_faulty : (p : Parts) (text rest line more : List ℕ) (number : ℕ) (d new : Draft) (fault : LineFault) → nat_lt MAX_PLAN_BYTES (length text) ≡ false → add_lines p number (Ok d) (lines_of rest) ≡ add_lines p 1 (Ok no_lines) (lines_of text) → lines_of rest ≡ line ∷ lines_of more → Leaves (Err fault) new (add_line p d line) → AnswersPlan (Err {T = Plan} (fault_at number fault)) (plan_of p text)
+pub read_faulty : (p : Parts) (text rest line more : List ℕ) (number : ℕ) (d new : Draft) (fault : LineFault) → nat_lt MAX_PLAN_BYTES (length text) ≡ false → add_lines p number (Ok d) (lines_of rest) ≡ add_lines p 1 (Ok no_lines) (lines_of text) → lines_of rest ≡ line ∷ lines_of more → Leaves (Err fault) new (add_line p d line) → AnswersPlan {A = Plan} (Err (fault_at number fault)) (plan_of p text)
 read_faulty p text rest line more number d new fault small so_far cut left =
     of_lines p text (Err (fault_at number fault)) small
-    (subst (λ (r : Result Draft PlanFault). AnswersPlan (Err {T = Plan} (fault_at number fault)) (finished (length (lines_of text) + 1) r))
+    (subst (λ (r : Result Draft PlanFault). AnswersPlan {A = Plan} (Err (fault_at number fault)) (finished (length (lines_of text) + 1) r))
      (sym (ap (λ (ls : List (List ℕ)). add_lines p number (Ok d) ls) cut) ∙ so_far)
      (faulty_line p number (length (lines_of text) + 1) new fault (add_line p d line) (lines_of more) left))
 
@@ -45,11 +45,3 @@ pub read_more : (p : Parts) (text rest line more : List ℕ) (number : ℕ) (don
 read_more p text rest line more number done d new so_far cut left =
     due_line p number done new (add_line p d line) (lines_of more) left
     ∙ sym (ap (λ (ls : List (List ℕ)). add_lines p number (Ok d) ls) cut) ∙ so_far
-
--- the end of a text
-pub read_all : (p : Parts) (text rest : List ℕ) (number : ℕ) (d : Draft) (answer : Result Plan PlanFault) → nat_lt MAX_PLAN_BYTES (length text) ≡ false → add_lines p number (Ok d) (lines_of rest) ≡ add_lines p 1 (Ok no_lines) (lines_of text) → lines_of rest ≡ [] → number ≡ length (lines_of text) + 1 → AnswersPlan answer (finished number (Ok d)) → AnswersPlan answer (plan_of p text)
-read_all p text rest number d answer small so_far none counted h =
-    of_lines p text answer small
-    (subst (λ (r : Result Draft PlanFault). AnswersPlan answer (finished (length (lines_of text) + 1) r))
-     (sym (ap (λ (ls : List (List ℕ)). add_lines p number (Ok d) ls) none) ∙ so_far)
-     (subst (λ (n : ℕ). AnswersPlan answer (finished n (Ok d))) counted h))
