@@ -31,14 +31,16 @@ no_word p kind parts i rest line within none so_far =
     in
     subst (λ (r : Result CallParts PlanKind). Answers (Err (LineFault.Faulty PlanKind.Word)) (call_if kind r)) (sym e) refl
 
-one_word : (p : Parts) (parts : CallParts) (operands : List Operand) (i : ℕ) (operand : Operand) (word : List ℕ) (words : List (List ℕ)) → i < length operands → operand ≡ get_or operands i operand → with_operands p (Ok parts) (drop i operands) (word ∷ words) ≡ with_operands p (with_operand p operand word parts) (drop (i + 1) operands) words
+one_word : (p : Parts) (parts : CallParts) (operands : List Operand) (i : ℕ) (operand : Operand) (word : List ℕ) (words : List (List ℕ)) → i < length operands → operand ≡ get_or operands i Operand.Id → with_operands p (Ok parts) (drop i operands) (word ∷ words) ≡ with_operands p (with_operand p operand word parts) (drop (suc i) operands) words
 one_word p parts [] i operand word words h is = absurd (omega arith)
 one_word p parts (o ∷ operands) zero operand word words h is = ap (λ (q : Operand). with_operands p (with_operand p q word parts) operands words) (sym is)
 one_word p parts (o ∷ operands) (suc i) operand word words h is = one_word p parts operands i operand word words (omega arith) is
 
-with_word : (p : Parts) (kind : CallKind) (parts : CallParts) (i : ℕ) (operand : Operand) (word : List ℕ) (rest more line : List (List ℕ)) → i < length (operands_of kind) → operand ≡ get_or (operands_of kind) i operand → rest ≡ word ∷ more → SoFar p kind parts i rest line → with_operands p (with_operand p operand word parts) (drop (i + 1) (operands_of kind)) more ≡ with_operands p (Ok no_parts) (operands_of kind) line
+with_word : (p : Parts) (kind : CallKind) (parts : CallParts) (i : ℕ) (operand : Operand) (word : List ℕ) (rest more line : List (List ℕ)) → i < length (operands_of kind) → operand ≡ get_or (operands_of kind) i Operand.Id → rest ≡ word ∷ more → SoFar p kind parts i rest line → with_operands p (with_operand p operand word parts) (drop (i + 1) (operands_of kind)) more ≡ with_operands p (Ok no_parts) (operands_of kind) line
 with_word p kind parts i operand word rest more line within is cut so_far =
-    sym (one_word p parts (operands_of kind) i operand word more within is)
+    let one : i + 1 ≡ suc i = omega arith in
+    ap (λ (n : ℕ). with_operands p (with_operand p operand word parts) (drop n (operands_of kind)) more) one
+    ∙ sym (one_word p parts (operands_of kind) i operand word more within is)
     ∙ sym (ap (λ (ls : List (List ℕ)). with_operands p (Ok parts) (drop i (operands_of kind)) ls) cut)
     ∙ so_far
 
@@ -57,7 +59,7 @@ call_faulty p kind new (LineFault.Faulty k) (Err due) operands words h =
     subst (λ (r : Result CallParts PlanKind). Answers (Err (LineFault.Faulty k)) (call_if kind r)) (sym (fault_stays p due operands words)) h
 
 -- an operand is faulty
-pub faulty_word : (p : Parts) (kind : CallKind) (parts new : CallParts) (fault : LineFault) (i : ℕ) (operand : Operand) (word : List ℕ) (rest more line : List (List ℕ)) → i < length (operands_of kind) → operand ≡ get_or (operands_of kind) i operand → rest ≡ word ∷ more → SoFar p kind parts i rest line → Leaves (Err fault) new (with_operand p operand word parts) → Answers (Err fault) (call_of p kind line)
+pub faulty_word : (p : Parts) (kind : CallKind) (parts new : CallParts) (fault : LineFault) (i : ℕ) (operand : Operand) (word : List ℕ) (rest more line : List (List ℕ)) → i < length (operands_of kind) → operand ≡ get_or (operands_of kind) i Operand.Id → rest ≡ word ∷ more → SoFar p kind parts i rest line → Leaves (Err fault) new (with_operand p operand word parts) → Answers (Err fault) (call_of p kind line)
 faulty_word p kind parts new fault i operand word rest more line within is cut so_far left =
     subst (λ (r : Result CallParts PlanKind). Answers (Err fault) (call_if kind r)) (with_word p kind parts i operand word rest more line within is cut so_far)
     (call_faulty p kind new fault (with_operand p operand word parts) (drop (i + 1) (operands_of kind)) more left)
@@ -67,7 +69,7 @@ taken p done new (Ok parts) h = ap Ok h
 taken p done new (Err kind) h = absurd h
 
 -- one operand more
-pub word_more : (p : Parts) (kind : CallKind) (done : Unit {0}) (parts new : CallParts) (i : ℕ) (operand : Operand) (word : List ℕ) (rest more line : List (List ℕ)) → i < length (operands_of kind) → operand ≡ get_or (operands_of kind) i operand → rest ≡ word ∷ more → SoFar p kind parts i rest line → Leaves (Ok done) new (with_operand p operand word parts) → SoFar p kind new (i + 1) more line
+pub word_more : (p : Parts) (kind : CallKind) (done : Unit {0}) (parts new : CallParts) (i : ℕ) (operand : Operand) (word : List ℕ) (rest more line : List (List ℕ)) → i < length (operands_of kind) → operand ≡ get_or (operands_of kind) i Operand.Id → rest ≡ word ∷ more → SoFar p kind parts i rest line → Leaves (Ok done) new (with_operand p operand word parts) → SoFar p kind new (i + 1) more line
 word_more p kind done parts new i operand word rest more line within is cut so_far left =
     ap (λ (r : Result CallParts PlanKind). with_operands p r (drop (i + 1) (operands_of kind)) more) (taken p done new (with_operand p operand word parts) left)
     ∙ with_word p kind parts i operand word rest more line within is cut so_far

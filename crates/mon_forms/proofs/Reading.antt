@@ -1,5 +1,6 @@
 -- One line more of a text, and its end.
-use Rattle.std.proofs.Common.{◌≡◌, ℕ, ◌+◌, ◌==◌, nat_lt, Bool, true, false, List, [], ◌∷◌, length, Result, Ok, Err, if◌then◌else◌, refl, sym, ap, ◌∙◌, subst}
+use Rattle.std.proofs.Common.{◌≡◌, ℕ, ◌+◌, ◌≤◌, ◌==◌, nat_lt, Bool, true, false, List, [], ◌∷◌, length, Result, Ok, Err, if◌then◌else◌, refl, sym, ap, ◌∙◌, subst, arith}
+use Rattle.std.proofs.lemmas.Bool.Decides.{nat_tests}
 use Rattle.mon_code.specs.Programs.{Parts}
 use Rattle.mon_forms.specs.Answers.{AnswersPlan, IsFault, Leaves, fault_at}
 use Rattle.mon_forms.specs.Lines.{lines_of}
@@ -12,6 +13,10 @@ use Rattle.mon_forms.specs.declared.limits.TheConstants.{MAX_PLAN_BYTES}
 use Rattle.mon_forms.specs.declared.plan.Plan.{Plan}
 use Rattle.mon_forms.specs.declared.plan.PlanFault.{PlanFault}
 use Rattle.mon_forms.specs.declared.plan.PlanKind.{PlanKind}
+
+-- a text of so many bytes is not too long
+pub not_longer : (n : ℕ) → n ≤ MAX_PLAN_BYTES → nat_lt MAX_PLAN_BYTES n ≡ false
+not_longer n h = grind (arith, nat_tests)
 
 err_stays : (p : Parts) (n : ℕ) (fault : PlanFault) (lines : List (List ℕ)) → add_lines p n (Err fault) lines ≡ Err fault
 err_stays p n fault [] = refl
