@@ -27,7 +27,7 @@ none_left p parts (operand ∷ operands) (suc i) h = none_left p parts operands 
 pub no_word : (p : Parts) (kind : CallKind) (parts : CallParts) (i : ℕ) (rest line : List (List ℕ)) → i < length (operands_of kind) → rest ≡ [] → SoFar p kind parts i rest line → Answers (Err (LineFault.Faulty PlanKind.Word)) (call_of p kind line)
 no_word p kind parts i rest line within none so_far =
     let e : with_operands p (Ok no_parts) (operands_of kind) line ≡ Err PlanKind.Word =
-      sym so_far ∙ ap (λ (ls : List (List ℕ)). with_operands p (Ok parts) (drop i (operands_of kind)) ls) none ∙ none_left p parts (operands_of kind) i within
+    sym so_far ∙ ap (λ (ls : List (List ℕ)). with_operands p (Ok parts) (drop i (operands_of kind)) ls) none ∙ none_left p parts (operands_of kind) i within
     in
     subst (λ (r : Result CallParts PlanKind). Answers (Err (LineFault.Faulty PlanKind.Word)) (call_if kind r)) (sym e) refl
 

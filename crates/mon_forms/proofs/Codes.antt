@@ -97,8 +97,8 @@ call_fits p CallKind.RestartEvents words named = any_call p CallKind.RestartEven
 found_code : (codes : List Code) (k count : ℕ) → parameters_of (slice_get codes k) ≡ Some count → k < length codes
 found_code codes k count h =
     elim (cases_lt k (length codes)) [
-      inl lt ↦ lt
-    | inr ge ↦ let e : None ≡ Some count = sym (ap parameters_of (slice_get_past codes k ge)) ∙ h in absurd cc
+      | inl lt ↦ lt
+      | inr ge ↦ let e : None ≡ Some count = sym (ap parameters_of (slice_get_past codes k ge)) ∙ h in absurd cc
     ]
 
 start_test : (p : Parts) (b : Bool) (start : Start) → (b ≡ true → FitsStart p start) → IfOk (if b then Ok start else Err PlanKind.Number) (FitsStart p)
@@ -109,8 +109,8 @@ start_counted : (p : Parts) (r : Option ℕ) (code : ℕ) (args : List Value) �
 start_counted p None code args e all = tt
 start_counted p (Some count) code args e all =
     start_test p (count == length args) (record { code = code; args = args }) (λ h.
-      let same : count ≡ length args = grind (arith, nat_tests) in
-      record { code = found_code p.codes code count e; count = e ∙ ap Some same; args = all })
+    let same : count ≡ length args = grind (arith, nat_tests) in
+    record { code = found_code p.codes code count e; count = e ∙ ap Some same; args = all })
 
 start_found : (p : Parts) (r : Option ℕ) (args : List Value) → All IsArgument args → IfOk (start_in p.codes r args) (FitsStart p)
 start_found p None args all = tt

@@ -45,10 +45,21 @@ none_keeps p =
     record {
       fits = record {
         workload = record {
-          steps = omega arith; all_steps = omega arith; threads = omega arith; scripts = omega arith; calls = omega arith;
-          starts = All-nil (FitsStart p); before_fits = All-nil (FitsCall p); scripts_fit = All-nil (All (FitsCall p)) };
-        schedule = All-nil (FitsMove (plan_in no_lines).workload) };
-      counted = omega arith; most = omega arith; begun = λ _. refl }
+          steps = omega arith;
+          all_steps = omega arith;
+          threads = omega arith;
+          scripts = omega arith;
+          calls = omega arith;
+          starts = All-nil (FitsStart p);
+          before_fits = All-nil (FitsCall p);
+          scripts_fit = All-nil (All (FitsCall p));
+        };
+        schedule = All-nil (FitsMove (plan_in no_lines).workload);
+      };
+      counted = omega arith;
+      most = omega arith;
+      begun = λ _. refl;
+    }
 
 to_section : (p : Parts) (d : Draft) (s : Section) → 1 < section_number s → KeepsLimits p d → KeepsLimits p (record d { section = s })
 to_section p d s h k = record { fits = k.fits; counted = k.counted; most = k.most; begun = λ l. absurd (omega arith) }
@@ -61,10 +72,21 @@ steps_keep p d (Some steps) few first k =
     record {
       fits = record {
         workload = record {
-          steps = omega arith; all_steps = rw none (omega arith); threads = w.threads; scripts = w.scripts; calls = w.calls;
-          starts = w.starts; before_fits = w.before_fits; scripts_fit = w.scripts_fit };
-        schedule = moves_kept (plan_in d).workload (record { steps = steps; threads = d.threads; before = d.before; scripts = d.scripts }) d.schedule (omega arith) (omega arith) k.fits.schedule };
-      counted = k.counted; most = k.most; begun = λ _. none }
+          steps = omega arith;
+          all_steps = rw none (omega arith);
+          threads = w.threads;
+          scripts = w.scripts;
+          calls = w.calls;
+          starts = w.starts;
+          before_fits = w.before_fits;
+          scripts_fit = w.scripts_fit;
+        };
+        schedule = moves_kept (plan_in d).workload (record { steps = steps; threads = d.threads; before = d.before; scripts = d.scripts }) d.schedule (omega arith) (omega arith) k.fits.schedule;
+      };
+      counted = k.counted;
+      most = k.most;
+      begun = λ _. none;
+    }
 
 script_keeps : (p : Parts) (d : Draft) → length d.scripts < MAX_SCRIPTS → KeepsLimits p d → KeepsLimits p (with_script d)
 script_keeps p d h k =
@@ -73,15 +95,21 @@ script_keeps p d h k =
     record {
       fits = record {
         workload = record {
-          steps = w.steps; all_steps = w.all_steps; threads = w.threads;
+          steps = w.steps;
+          all_steps = w.all_steps;
+          threads = w.threads;
           scripts = omega arith;
           calls = omega (arith, w.calls, none_more d.scripts);
-          starts = w.starts; before_fits = w.before_fits;
-          scripts_fit = All-push (All (FitsCall p)) d.scripts [] w.scripts_fit (All-nil (FitsCall p)) };
-        schedule = moves_kept (plan_in d).workload (record { steps = d.steps; threads = d.threads; before = d.before; scripts = d.scripts ++ [] ∷ [] }) d.schedule (omega arith) (omega arith) k.fits.schedule };
+          starts = w.starts;
+          before_fits = w.before_fits;
+          scripts_fit = All-push (All (FitsCall p)) d.scripts [] w.scripts_fit (All-nil (FitsCall p));
+        };
+        schedule = moves_kept (plan_in d).workload (record { steps = d.steps; threads = d.threads; before = d.before; scripts = d.scripts ++ [] ∷ [] }) d.schedule (omega arith) (omega arith) k.fits.schedule;
+      };
       counted = omega (arith, k.counted, none_more d.scripts);
       most = k.most;
-      begun = λ l. absurd (omega arith) }
+      begun = λ l. absurd (omega arith);
+    }
 
 int_fits : (n : ℤ) → IsArgument (Value.Int n)
 int_fits n = let e : out-Value (Value.Int n) ≡ Value-F.Int n = search (rules, the_lemmas) in subst FitsArgument (sym e) tt
@@ -112,11 +140,21 @@ start_keeps p d start fits few all k =
     record {
       fits = record {
         workload = record {
-          steps = w.steps; all_steps = subst (λ (n : ℕ). d.steps * n ≤ MAX_ALL_STEPS) (sym more) all; threads = omega arith;
-          scripts = w.scripts; calls = w.calls;
-          starts = All-push (FitsStart p) d.threads start w.starts fits; before_fits = w.before_fits; scripts_fit = w.scripts_fit };
-        schedule = moves_kept (plan_in d).workload (record { steps = d.steps; threads = d.threads ++ start ∷ []; before = d.before; scripts = d.scripts }) d.schedule (omega arith) (omega arith) k.fits.schedule };
-      counted = k.counted; most = k.most; begun = λ l. absurd (omega arith) }
+          steps = w.steps;
+          all_steps = subst (λ (n : ℕ). d.steps * n ≤ MAX_ALL_STEPS) (sym more) all;
+          threads = omega arith;
+          scripts = w.scripts;
+          calls = w.calls;
+          starts = All-push (FitsStart p) d.threads start w.starts fits;
+          before_fits = w.before_fits;
+          scripts_fit = w.scripts_fit;
+        };
+        schedule = moves_kept (plan_in d).workload (record { steps = d.steps; threads = d.threads ++ start ∷ []; before = d.before; scripts = d.scripts }) d.schedule (omega arith) (omega arith) k.fits.schedule;
+      };
+      counted = k.counted;
+      most = k.most;
+      begun = λ l. absurd (omega arith);
+    }
 
 thread_keeps : (p : Parts) (d : Draft) (r : Result Start PlanKind) → IfOk r (FitsStart p) → has_all_threads d ≡ false → KeepsLimits p d → IfOk (with_start d r) (KeepsLimits p)
 thread_keeps p d (Err kind) fits few k = tt
@@ -160,11 +198,21 @@ before_keeps p d call fits few k =
     record {
       fits = record {
         workload = record {
-          steps = w.steps; all_steps = w.all_steps; threads = w.threads; scripts = w.scripts;
+          steps = w.steps;
+          all_steps = w.all_steps;
+          threads = w.threads;
+          scripts = w.scripts;
           calls = omega (arith, more, k.counted);
-          starts = w.starts; before_fits = All-push (FitsCall p) d.before call w.before_fits fits; scripts_fit = w.scripts_fit };
-        schedule = moves_kept (plan_in d).workload (record { steps = d.steps; threads = d.threads; before = d.before ++ call ∷ []; scripts = d.scripts }) d.schedule (omega arith) (omega arith) k.fits.schedule };
-      counted = omega (arith, more, k.counted); most = omega (arith, few); begun = k.begun }
+          starts = w.starts;
+          before_fits = All-push (FitsCall p) d.before call w.before_fits fits;
+          scripts_fit = w.scripts_fit;
+        };
+        schedule = moves_kept (plan_in d).workload (record { steps = d.steps; threads = d.threads; before = d.before ++ call ∷ []; scripts = d.scripts }) d.schedule (omega arith) (omega arith) k.fits.schedule;
+      };
+      counted = omega (arith, more, k.counted);
+      most = omega (arith, few);
+      begun = k.begun;
+    }
 
 onto_keeps : (p : Parts) (d : Draft) (call : ControlCall) → FitsCall p call → d.calls < MAX_CALLS → KeepsLimits p d → KeepsLimits p (record d { calls = d.calls + 1; scripts = onto_last d.scripts call })
 onto_keeps p d call fits few k =
@@ -173,11 +221,21 @@ onto_keeps p d call fits few k =
     record {
       fits = record {
         workload = record {
-          steps = w.steps; all_steps = w.all_steps; threads = w.threads; scripts = omega (arith, same, w.scripts);
+          steps = w.steps;
+          all_steps = w.all_steps;
+          threads = w.threads;
+          scripts = omega (arith, same, w.scripts);
           calls = omega (arith, one_more d.scripts call, k.counted);
-          starts = w.starts; before_fits = w.before_fits; scripts_fit = onto_fits p d.scripts call fits w.scripts_fit };
-        schedule = moves_kept (plan_in d).workload (record { steps = d.steps; threads = d.threads; before = d.before; scripts = onto_last d.scripts call }) d.schedule (omega arith) (omega (arith, same)) k.fits.schedule };
-      counted = omega (arith, one_more d.scripts call, k.counted); most = omega (arith, few); begun = k.begun }
+          starts = w.starts;
+          before_fits = w.before_fits;
+          scripts_fit = onto_fits p d.scripts call fits w.scripts_fit;
+        };
+        schedule = moves_kept (plan_in d).workload (record { steps = d.steps; threads = d.threads; before = d.before; scripts = onto_last d.scripts call }) d.schedule (omega arith) (omega (arith, same)) k.fits.schedule;
+      };
+      counted = omega (arith, one_more d.scripts call, k.counted);
+      most = omega (arith, few);
+      begun = k.begun;
+    }
 
 section_keeps : (p : Parts) (d : Draft) (call : ControlCall) (s : Section) → FitsCall p call → d.calls < MAX_CALLS → KeepsLimits p d → KeepsLimits p (onto_section d call s)
 section_keeps p d call Section.Nothing fits few k = onto_keeps p d call fits few k

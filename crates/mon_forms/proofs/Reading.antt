@@ -38,8 +38,8 @@ pub read_faulty : (p : Parts) (text rest line more : List ℕ) (number : ℕ) (d
 read_faulty p text rest line more number d new fault small so_far cut left =
     of_lines p text (Err (fault_at number fault)) small
     (subst (λ (r : Result Draft PlanFault). AnswersPlan {A = Plan} (Err (fault_at number fault)) (finished (length (lines_of text) + 1) r))
-     (sym (ap (λ (ls : List (List ℕ)). add_lines p number (Ok d) ls) cut) ∙ so_far)
-     (faulty_line p number (length (lines_of text) + 1) new fault (add_line p d line) (lines_of more) left))
+    (sym (ap (λ (ls : List (List ℕ)). add_lines p number (Ok d) ls) cut) ∙ so_far)
+    (faulty_line p number (length (lines_of text) + 1) new fault (add_line p d line) (lines_of more) left))
 
 due_line : (p : Parts) (number : ℕ) (done : Unit {0}) (new : Draft) (due : Result Draft PlanKind) (lines : List (List ℕ)) → Leaves (Ok done) new due → add_lines p (number + 1) (Ok new) lines ≡ add_lines p (number + 1) (at_line number due) lines
 due_line p number done new (Ok d) lines h = ap (λ (e : Draft). add_lines p (number + 1) (Ok e) lines) h

@@ -100,12 +100,12 @@ CutsWord line word n =
 cuts : (line word : List ℕ) (n : ℕ) → words_of word ≡ words_of line → 0 < length word → length word ≤ length line → 0 < n → n ≤ length word → ((k : ℕ) → k < n → is_blank (get_or word k 0) ≡ false) → (n < length word → is_blank (get_or word n 0) ≡ true) → words_of word ≡ take n word ∷ words_of (drop n word)
 cuts line word n same some shorter begun within before found =
     elim (cases_lt n (length word)) [
-      inl lt ↦ cut_word word n begun lt before (found lt)
-    | inr ge ↦
-      let e : n ≡ length word = omega arith in
-      last_word word some (λ k h. before k (omega (arith, e)))
-      ∙ ap (λ ws. word ∷ ws) (sym (ap words_of (drop_all n word (omega (arith, e)))))
-      ∙ ap (λ w. w ∷ words_of (drop n word)) (sym (take_all n word (omega (arith, e))))
+      | inl lt ↦ cut_word word n begun lt before (found lt)
+      | inr ge ↦
+          let e : n ≡ length word = omega arith in
+          last_word word some (λ k h. before k (omega (arith, e)))
+          ∙ ap (λ ws. word ∷ ws) (sym (ap words_of (drop_all n word (omega (arith, e)))))
+          ∙ ap (λ w. w ∷ words_of (drop n word)) (sym (take_all n word (omega (arith, e))))
     ]
 
 begins : (word : List ℕ) (n : ℕ) → is_blank (get_or word 0 0) ≡ false → 0 < length word → (n < length word → is_blank (get_or word n 0) ≡ true) → 0 < n
@@ -126,10 +126,10 @@ plain_parts word n h = (plain_take word n h, ap is_plain_line (tail_is word n) �
 -- a line that ends at the first LF
 pub found_line : (text : List ℕ) (n : ℕ) → n < length text → ((k : ℕ) → k < n → get_or text k 0 ≢ 10) → get_or text n 0 ≡ 10 → (lines_of text ≡ without_return (take n text) ∷ lines_of (take (length text - (n + 1)) (drop (n + 1) text))) × (length (take (length text - (n + 1)) (drop (n + 1) text)) < length text)
 found_line text n lt before found =
-  let one : suc n ≡ n + 1 = omega arith in (
-    cut_line text n lt before found ∙ ap (λ k. without_return (take n text) ∷ lines_of (drop k text)) one ∙ ap (λ rest. without_return (take n text) ∷ lines_of rest) (sym (tail_is text (n + 1))),
-    omega (arith, ap length (tail_is text (n + 1)), length-drop (n + 1) text),
-)
+    let one : suc n ≡ n + 1 = omega arith in (
+      cut_line text n lt before found ∙ ap (λ k. without_return (take n text) ∷ lines_of (drop k text)) one ∙ ap (λ rest. without_return (take n text) ∷ lines_of rest) (sym (tail_is text (n + 1))),
+      omega (arith, ap length (tail_is text (n + 1)), length-drop (n + 1) text),
+    )
 
 pub last_part : (text : List ℕ) (n : ℕ) → 0 < length text → length text ≤ n → ((k : ℕ) → k < n → get_or text k 0 ≢ 10) → (lines_of text ≡ text ∷ []) × (0 < length text)
 last_part text n some past before = (last_line text some (λ k h. before k (omega arith)), some)

@@ -274,8 +274,7 @@ impl Draft {
     {
         let count = self.threads.len() as u64;
         let thread = number_below(count, first_word(operands)).ok_or(PlanKind::Number)?;
-        let steps =
-            number_below(MAX_STEPS + 1, second_word(operands)).ok_or(PlanKind::Number)?;
+        let steps = number_below(MAX_STEPS + 1, second_word(operands)).ok_or(PlanKind::Number)?;
         self.schedule.push(Move::Turn(thread as u8, steps))?;
         Ok(())
     }

@@ -8,13 +8,7 @@ fn without_return(line: &[u8]) -> &[u8]
 {
     match line.split_last() {
         None => line,
-        Some((last, before)) => {
-            if *last == b'\r' {
-                before
-            } else {
-                line
-            }
-        }
+        Some((last, before)) => { if *last == b'\r' { before } else { line } }
     }
 }
 

@@ -3,8 +3,8 @@ ghost use Rattle.std.specs.List.{list_all};
 ghost use Rattle.mon_forms.specs.Lines.{is_plain_line, words_of};
 ghost use Rattle.mon_forms.specs.Operands as spec;
 
-use crate::lines::next_word;
 use crate::limits::MAX_TEXT;
+use crate::lines::next_word;
 use crate::plan::{REPORT_KINDS, ReportKind};
 use mon_events::{EventSet, set_of_names};
 use mon_history::Policy;

@@ -60,13 +60,22 @@ fn line_of(alloc: Global, call: &ControlCall) -> Result<String, AllocError> {
         }
         ControlCall::FreeToolId { id } => format!(in alloc; "free {id}"),
         ControlCall::GetTool { id } => format!(in alloc; "get {id}"),
-        ControlCall::SetEvents { id, set: EventSet(set) } => format!(in alloc; "set {id} {set}"),
+        ControlCall::SetEvents {
+            id,
+            set: EventSet(set),
+        } => format!(in alloc; "set {id} {set}"),
         ControlCall::GetEvents { id } => format!(in alloc; "events {id}"),
-        ControlCall::SetLocalEvents { id, code, set: EventSet(set) } => {
-            format!(in alloc; "local {id} {code} {set}")
-        }
+        ControlCall::SetLocalEvents {
+            id,
+            code,
+            set: EventSet(set),
+        } => { format!(in alloc; "local {id} {code} {set}") }
         ControlCall::GetLocalEvents { id, code } => format!(in alloc; "get_local {id} {code}"),
-        ControlCall::RegisterCallback { id, event: EventSet(set), policy } => {
+        ControlCall::RegisterCallback {
+            id,
+            event: EventSet(set),
+            policy,
+        } => {
             let policy = match policy {
                 Policy::Nothing => "None",
                 Policy::Keep => "keep",
@@ -111,18 +120,41 @@ fn a_plan_has_all_that_its_lines_say(rt: HostRuntime) -> Result<(), Fail> {
     let plan = read_plan(alloc, WHOLE, &program)?;
     assert_eq!(rt; plan.workload.steps, 400);
     assert!(rt; has_threads(&plan));
-    let before = ["use 1 a_B-9.z", "free 0", "get -1", "set 5 130", "events 6", "local 1 2 4294967295"];
+    let before = [
+        "use 1 a_B-9.z",
+        "free 0",
+        "get -1",
+        "set 5 130",
+        "events 6",
+        "local 1 2 4294967295",
+    ];
     assert!(rt; are_calls(alloc, plan.workload.before.as_slice(), &before)?);
-    let first = ["get_local 1 1", "register 1 16384 once", "register 1 0 None"];
+    let first = [
+        "get_local 1 1",
+        "register 1 16384 once",
+        "register 1 0 None",
+    ];
     let last = ["register 9 128 keep", "restart"];
     assert!(rt; has_scripts(alloc, &plan, &[&first, &[], &last])?);
     let schedule = [Move::Turn(1, 200_000), Move::Call(2), Move::Turn(0, 0)];
     assert_eq!(rt; plan.schedule.as_slice(), schedule.as_slice());
     let reports = [
-        ReportLine { kind: ReportKind::Coverage, tool: 0 },
-        ReportLine { kind: ReportKind::Lines, tool: 5 },
-        ReportLine { kind: ReportKind::Calls, tool: 1 },
-        ReportLine { kind: ReportKind::Branches, tool: 2 },
+        ReportLine {
+            kind: ReportKind::Coverage,
+            tool: 0,
+        },
+        ReportLine {
+            kind: ReportKind::Lines,
+            tool: 5,
+        },
+        ReportLine {
+            kind: ReportKind::Calls,
+            tool: 1,
+        },
+        ReportLine {
+            kind: ReportKind::Branches,
+            tool: 2,
+        },
     ];
     assert_eq!(rt; plan.reports.as_slice(), reports.as_slice());
     Ok(())

@@ -48,6 +48,22 @@ const OUTLINES: [(&[u8], &str); 44] = [
     (b"steps 5\nscript\nbefore", "3 Order"),
 ];
 
+/// The plans of the examples.
+const EXAMPLES: [(&[u8], &str); 3] = [
+    (
+        b"steps 200\nthread f 0\nbefore\nuse_tool_id 1 cov\nset_events 1 LINE\nregister_callback 1 LINE keep\n",
+        "plan",
+    ),
+    (
+        b"steps 100\nthread f 3\nbefore\nuse_tool_id 1 cov\nset_events 1 LINE\nregister_callback 1 LINE keep\n",
+        "plan",
+    ),
+    (
+        b"steps 100\nthread f 3 4\nbefore\nuse_tool_id 1 cov\nset_events 1 LINE\nregister_callback 1 LINE keep\n",
+        "2 Number",
+    ),
+];
+
 /// Lines behind `steps 9`, a thread, `before`, two scripts and `schedule`, and what each is found to be.
 const LATER: [(&[u8], &str); 19] = [
     (b"turn 0 200000", "plan"),
@@ -91,7 +107,10 @@ const CALLS: [(&[u8], &str); 38] = [
     (b"set_events 1 line", "3 Name"),
     (b"set_events 1 LINE|", "3 Name"),
     (b"set_events 1 0", "plan"),
-    (b"set_events 1 00000000000000000000000000004294967295", "plan"),
+    (
+        b"set_events 1 00000000000000000000000000004294967295",
+        "plan",
+    ),
     (b"set_events 1 4294967296", "3 Name"),
     (b"set_events 1 -1", "3 Name"),
     (b"set_events x -1", "3 Number"),
@@ -135,8 +154,12 @@ fn each_line_is_a_plan_or_its_first_fault(rt: HostRuntime) -> Result<(), Fail> {
     let alloc = rt.alloc();
     let program = program(alloc)?;
     assert_eq!(rt; first_other(alloc, &program, &OUTLINES)?, None);
+    assert_eq!(rt; first_other(alloc, &program, &EXAMPLES)?, None);
     let later = b"steps 9\nthread f 1\nbefore\nscript\nscript\nschedule\n";
     assert_eq!(rt; other_behind(alloc, &program, later, &LATER)?, None);
-    assert_eq!(rt; other_behind(alloc, &program, b"steps 9\nbefore\n", &CALLS)?, None);
+    assert_eq!(rt;
+        other_behind(alloc, &program, b"steps 9\nbefore\n", &CALLS)?,
+        None
+    );
     Ok(())
 }

@@ -1,12 +1,7 @@
 use super::*;
 
 /// Whether a text with so many pieces in the middle gets a verdict.
-fn gets(
-    alloc: Global,
-    parts: (&str, &str, &str),
-    count: usize,
-    due: &str,
-) -> Result<bool, Fail> {
+fn gets(alloc: Global, parts: (&str, &str, &str), count: usize, due: &str) -> Result<bool, Fail> {
     let (before, piece, behind) = parts;
     let program = program(alloc)?;
     let text = repeated(alloc, before, piece, count, behind)?;
@@ -20,12 +15,30 @@ fn no_limit_is_passed(rt: HostRuntime) -> Result<(), Fail> {
     assert!(rt; gets(alloc, threads, 8, "plan")?);
     assert!(rt; gets(alloc, threads, 9, "10 TooMany")?);
     assert!(rt; gets(alloc, ("steps 200000\n", "thread f 1\n", ""), 2, "plan")?);
-    assert!(rt; gets(alloc, ("steps 200000\n", "thread f 1\n", ""), 3, "4 TooMany")?);
-    assert!(rt; gets(alloc, ("steps 50000\n", "thread f 1\n", "thread f x"), 8, "10 TooMany")?);
+    assert!(rt;
+        gets(
+            alloc,
+            ("steps 200000\n", "thread f 1\n", ""),
+            3,
+            "4 TooMany"
+        )?
+    );
+    assert!(rt;
+        gets(
+            alloc,
+            ("steps 50000\n", "thread f 1\n", "thread f x"),
+            8,
+            "10 TooMany"
+        )?
+    );
     let scripts = ("steps 10\n", "script\n", "");
     assert!(rt; gets(alloc, scripts, 4, "plan")?);
     assert!(rt; gets(alloc, scripts, 5, "6 TooMany")?);
-    let calls = ("steps 10\nbefore\nget_tool 1\nscript\n", "restart_events\n", "");
+    let calls = (
+        "steps 10\nbefore\nget_tool 1\nscript\n",
+        "restart_events\n",
+        "",
+    );
     assert!(rt; gets(alloc, calls, 255, "plan")?);
     assert!(rt; gets(alloc, calls, 256, "260 TooMany")?);
     let moves = ("steps 10\nthread f 1\nschedule\n", "turn 0 1\n", "");
@@ -42,7 +55,14 @@ fn a_long_argument_is_too_many_where_it_is_a_text(rt: HostRuntime) -> Result<(),
     let alloc = rt.alloc();
     assert!(rt; gets(alloc, ("steps 1\nthread f '", "a", "'"), 255, "plan")?);
     assert!(rt; gets(alloc, ("steps 1\nthread f '", "a", "'"), 256, "2 TooMany")?);
-    assert!(rt; gets(alloc, ("steps 1\nthread zz x '", "a", "'"), 256, "2 TooMany")?);
+    assert!(rt;
+        gets(
+            alloc,
+            ("steps 1\nthread zz x '", "a", "'"),
+            256,
+            "2 TooMany"
+        )?
+    );
     assert!(rt; gets(alloc, ("steps 1\nthread f '", "a", "b"), 256, "2 Number")?);
     assert!(rt; gets(alloc, ("steps 1\nthread f '", "\\", "'"), 256, "2 Number")?);
     assert!(rt; gets(alloc, ("steps 1\nthread f ", "1", ""), 18, "plan")?);
@@ -57,7 +77,12 @@ fn a_long_text_is_too_many_before_all_else(rt: HostRuntime) -> Result<(), Fail> 
     for piece in ["#", "\n", "\r", " ", "1", "a", "'"] {
         assert!(rt; gets(alloc, ("", piece, ""), 262_145, "0 TooMany")?);
     }
-    for (piece, due) in [("\n", "262145 Order"), ("#", "2 Order"), ("1", "1 Word"), (" ", "2 Order")] {
+    for (piece, due) in [
+        ("\n", "262145 Order"),
+        ("#", "2 Order"),
+        ("1", "1 Word"),
+        (" ", "2 Order"),
+    ] {
         assert!(rt; gets(alloc, ("", piece, ""), 262_144, due)?);
     }
     Ok(())

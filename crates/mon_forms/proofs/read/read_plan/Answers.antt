@@ -9,8 +9,8 @@ returns-in-Err-clause-plan c =
 
 pub loop-line-preserved : goal.loop-line-preserved
 loop-line-preserved c = (
-    read_more c.args.program.now c.args.text.now c.loop-line.rest.now c.in-Some.line.now c.in-Some.more.now c.loop-line.number c.in_default-take_line.field-0 c.loop-line.draft c.take_line.new.self c.loop-line.invariant.0 c.in-Some.ensures.0 c.in_default-take_line.ensures.line,
-    omega (arith, ap length c.in-Some.ensures.0),
-    omega (arith, c.in-Some.ensures.1),
-    c.in_default-take_line.ensures.fits,
+  read_more c.args.program.now c.args.text.now c.loop-line.rest.now c.in-Some.line.now c.in-Some.more.now c.loop-line.number c.in_default-take_line.field-0 c.loop-line.draft c.take_line.new.self c.loop-line.invariant.0 c.in-Some.ensures.0 c.in_default-take_line.ensures.line,
+  omega (arith, ap length c.in-Some.ensures.0),
+  omega (arith, c.in-Some.ensures.1),
+  c.in_default-take_line.ensures.fits,
 )

@@ -26,8 +26,8 @@ pub returns : goal.returns
 returns c =
     call_taken c.args.self.now _ c.in_ok-call.call (call_of c.args.program.now c.args.kind (words_of c.args.operands.now)) c.in_ok-call.ensures
     (elim c.match-self.branch [
-      in-Before+in_ok-push-in-Before w ↦
-      before_added c.args.self.now c.match-self.self c.in_ok-call.call w.push.new.self w.self-is w.in_ok-push-in-Before.ensures.ok w.in-Before.is
-    | in_default+in_ok-push_to_script-in_default w ↦
-      script_added c.args.self.now c.match-self.self w.push_to_script.new.self c.in_ok-call.call w.self-is w.in_ok-push_to_script-in_default.ensures w.in_default.not-Before
+      | in-Before+in_ok-push-in-Before w ↦
+          before_added c.args.self.now c.match-self.self c.in_ok-call.call w.push.new.self w.self-is w.in_ok-push-in-Before.ensures.ok w.in-Before.is
+      | in_default+in_ok-push_to_script-in_default w ↦
+          script_added c.args.self.now c.match-self.self w.push_to_script.new.self c.in_ok-call.call w.self-is w.in_ok-push_to_script-in_default.ensures w.in_default.not-Before
     ])
