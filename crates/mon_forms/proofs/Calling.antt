@@ -2,7 +2,7 @@
 use Rattle.std.proofs.Common.{◌≡◌, ℕ, zero, suc, ◌+◌, ◌<◌, List, [], ◌∷◌, ◌++◌, length, drop, get_or, Result, Ok, Err, refl, sym, ap, ◌∙◌, subst, arith}
 use Rattle.mon_code.specs.Programs.{Parts}
 use Rattle.mon_history.specs.declared.calls.ControlCall.{ControlCall}
-use Rattle.mon_forms.specs.Answers.{Answers, Leaves, IsFault}
+use Rattle.mon_forms.specs.Answers.{Answers, Leaves}
 use Rattle.mon_forms.specs.Calls.{with_operand, with_operands, call_if, call_of, no_parts, operands_of}
 use Rattle.mon_forms.specs.Plans.{onto_last, onto_script, onto_section, with_call}
 use Rattle.mon_forms.specs.declared.calls.CallKind.{CallKind}

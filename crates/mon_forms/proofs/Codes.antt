@@ -1,17 +1,16 @@
 -- The codes that a call and a thread name are there.
-use Rattle.std.proofs.Common.{◌≡◌, ℕ, ℤ, ◌+◌, ◌<◌, ◌≤◌, ◌==◌, Bool, true, false, List, [], ◌∷◌, length, slice_get, Option, Some, None, Result, Ok, Err, IfOk, IfSome, if◌then◌else◌, refl, sym, ap, ◌∙◌, inl, inr, arith}
+use Rattle.std.proofs.Common.{◌≡◌, ℕ, ◌+◌, ◌<◌, ◌==◌, Bool, true, false, List, [], ◌∷◌, length, slice_get, Option, Some, None, Result, Ok, Err, IfOk, IfSome, if◌then◌else◌, refl, sym, ap, ◌∙◌, inl, inr, arith}
 use Rattle.std.specs.List.{All}
 use Rattle.std.proofs.lemmas.Bool.{cases_lt}
 use Rattle.std.proofs.lemmas.Bool.Decides.{nat_tests}
 use Rattle.std.proofs.lemmas.Option.{IfSome_then, slice_get_past}
 use Rattle.mon_code.specs.Programs.{Parts, code_named, first_named, is_text}
 use Rattle.mon_code.specs.declared.program.Code.{Code}
-use Rattle.mon_history.specs.declared.calls.ControlCall.{ControlCall}
 use Rattle.mon_values.specs.declared.value.Value.{Value}
 use Rattle.mon_forms.specs.Calls.{with_operands, with_id, with_code, with_set, call_if, call_with, call_of, no_parts, operands_of}
 use Rattle.mon_forms.specs.Fits.{FitsCall, FitsStart, IsArgument}
 use Rattle.mon_forms.specs.Operands.{integer_of, set_of}
-use Rattle.mon_forms.specs.Plans.{start_of, start_named, start_in, start_if, parameters_of}
+use Rattle.mon_forms.specs.Plans.{start_of, start_in, start_if, parameters_of}
 use Rattle.mon_forms.specs.declared.calls.CallKind.{CallKind}
 use Rattle.mon_forms.specs.declared.calls.CallParts.{CallParts}
 use Rattle.mon_forms.specs.declared.calls.Operand.{Operand}

@@ -1,17 +1,16 @@
 -- One line more keeps the limits.
-use Rattle.std.proofs.Common.{◌≡◌, ℕ, ℤ, ◌+◌, ◌*◌, ◌<◌, ◌≤◌, ◌==◌, nat_lt, nat_le, Bool, true, false, not, ◌||◌, ◌&&◌, List, [], ◌∷◌, ◌++◌, length, drop, slice_get, Option, Some, None, Result, Ok, Err, IfOk, IfSome, OnOk, if◌then◌else◌, refl, sym, ap, ◌∙◌, subst, arith, rules, length-append}
+use Rattle.std.proofs.Common.{◌≡◌, ℕ, ℤ, ◌+◌, ◌*◌, ◌<◌, ◌≤◌, nat_lt, nat_le, Bool, true, false, ◌||◌, List, [], ◌∷◌, ◌++◌, length, drop, Option, Some, None, Result, Ok, Err, IfOk, IfSome, OnOk, refl, sym, subst, arith, rules, length-append}
 use Rattle.std.specs.List.{All}
 use Rattle.std.proofs.lemmas.Bool.Decides.{nat_tests}
 use Rattle.std.proofs.lemmas.List.Elements.{All-nil, All-cons, All-head, All-tail, All-push}
-use Rattle.mon_code.specs.Programs.{Parts, code_named}
+use Rattle.mon_code.specs.Programs.{Parts}
 use Rattle.mon_history.specs.declared.calls.ControlCall.{ControlCall}
-use Rattle.mon_values.specs.declared.value.Exc.{Exc}
 use Rattle.mon_values.specs.declared.value.Value.{Value}
 use Rattle.mon_values.specs.declared.value.Value.TheOpen.{Value-F}
 use Rattle.mon_values.specs.declared.value.Value.TheViews.{out-Value, the_lemmas}
 use Rattle.mon_forms.specs.Answers.{Leaves}
 use Rattle.mon_forms.specs.Calls.{call_of}
-use Rattle.mon_forms.specs.Fits.{KeepsLimits, FitsProgram, FitsWorkload, FitsStart, FitsCall, FitsMove, FitsArgument, IsArgument, calls_in}
+use Rattle.mon_forms.specs.Fits.{KeepsLimits, FitsStart, FitsCall, FitsMove, FitsArgument, IsArgument}
 use Rattle.mon_forms.specs.Heads.{section_number, may_follow, is_from_to}
 use Rattle.mon_forms.specs.Lines.{word_at}
 use Rattle.mon_forms.specs.Operands.{number_below, integer_of, quoted, argument_of, arguments_of, has_long_text, is_long, integer_or_text, and_arguments, report_of}
@@ -20,7 +19,6 @@ use Rattle.mon_forms.specs.declared.draft.Draft.{Draft}
 use Rattle.mon_forms.specs.declared.draft.LineFault.{LineFault}
 use Rattle.mon_forms.specs.declared.heads.Head.{Head}
 use Rattle.mon_forms.specs.declared.heads.Section.{Section}
-use Rattle.mon_forms.specs.declared.calls.CallKind.{CallKind}
 use Rattle.mon_forms.specs.declared.limits.TheConstants.{MAX_STEPS, MAX_ALL_STEPS, MAX_THREADS, MAX_SCRIPTS, MAX_CALLS, TOOLS}
 use Rattle.mon_forms.specs.declared.plan.PlanKind.{PlanKind}
 use Rattle.mon_forms.specs.declared.plan.Start.{Start}

@@ -1,14 +1,12 @@
 -- One line more of a text, and its end.
-use Rattle.std.proofs.Common.{◌≡◌, ℕ, ◌+◌, ◌≤◌, ◌==◌, nat_lt, Bool, true, false, List, [], ◌∷◌, length, Result, Ok, Err, if◌then◌else◌, refl, sym, ap, ◌∙◌, subst, arith}
+use Rattle.std.proofs.Common.{◌≡◌, ℕ, ◌+◌, ◌≤◌, nat_lt, Bool, false, List, [], ◌∷◌, length, Result, Ok, Err, if◌then◌else◌, refl, sym, ap, ◌∙◌, subst, arith}
 use Rattle.std.proofs.lemmas.Bool.Decides.{nat_tests}
 use Rattle.mon_code.specs.Programs.{Parts}
-use Rattle.mon_forms.specs.Answers.{AnswersPlan, IsFault, Leaves, fault_at}
+use Rattle.mon_forms.specs.Answers.{AnswersPlan, Leaves, fault_at}
 use Rattle.mon_forms.specs.Lines.{lines_of}
-use Rattle.mon_forms.specs.Heads.{section_number}
-use Rattle.mon_forms.specs.Plans.{add_line, add_lines, at_line, finished, no_lines, plan_in, plan_of, plan_of_lines}
+use Rattle.mon_forms.specs.Plans.{add_line, add_lines, at_line, finished, no_lines, plan_of, plan_of_lines}
 use Rattle.mon_forms.specs.declared.draft.Draft.{Draft}
 use Rattle.mon_forms.specs.declared.draft.LineFault.{LineFault}
-use Rattle.mon_forms.specs.declared.heads.Section.{Section}
 use Rattle.mon_forms.specs.declared.limits.TheConstants.{MAX_PLAN_BYTES}
 use Rattle.mon_forms.specs.declared.plan.Plan.{Plan}
 use Rattle.mon_forms.specs.declared.plan.PlanFault.{PlanFault}

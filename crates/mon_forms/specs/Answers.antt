@@ -1,5 +1,5 @@
 -- Answers that are the due ones, or want of memory.
-use Rattle.std.specs.Prelude.{◌≡◌, List, ℕ, Option, Some, None, Result, Ok, Err}
+use Rattle.std.specs.Prelude.{◌≡◌, ℕ, Result, Ok, Err}
 use Rattle.mon_forms.specs.declared.draft.LineFault.{LineFault}
 use Rattle.mon_forms.specs.declared.plan.PlanFault.{PlanFault}
 use Rattle.mon_forms.specs.declared.plan.PlanKind.{PlanKind}

@@ -1,5 +1,5 @@
 -- What a run asks of a plan: the limits, and that each code, thread and script that it names is there.
-use Rattle.std.specs.Prelude.{◌≡◌, ℕ, ◌+◌, ◌*◌, ◌<◌, ◌≤◌, List, [], ◌∷◌, length, All, slice_get, Option, Some}
+use Rattle.std.specs.Prelude.{◌≡◌, ℕ, ◌+◌, ◌*◌, ◌<◌, ◌≤◌, List, [], ◌∷◌, length, All, slice_get, Some}
 use Rattle.mon_code.specs.Programs.{Parts}
 use Rattle.mon_history.specs.declared.calls.ControlCall.{ControlCall}
 use Rattle.mon_values.specs.declared.value.Exc.{Exc}

@@ -1,5 +1,5 @@
 -- The first words of a plan's lines: how many words stand behind each, and where its line may stand.
-use Rattle.std.specs.Prelude.{ℕ, ◌==◌, nat_le, Bool, true, false, ◌&&◌, List, [], ◌∷◌, ◌++◌, length, map, find, Option, codes, bytes_eq}
+use Rattle.std.specs.Prelude.{ℕ, ◌==◌, nat_le, Bool, ◌&&◌, List, [], ◌∷◌, length, find, Option, codes, bytes_eq}
 use Rattle.mon_forms.specs.Calls.{call_word, operands_of}
 use Rattle.mon_forms.specs.declared.calls.CallKind.{CallKind}
 use Rattle.mon_forms.specs.declared.heads.Head.{Head}

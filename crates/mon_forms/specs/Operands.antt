@@ -1,5 +1,5 @@
 -- What a word behind the first is: a number, a name, a set, a policy, a text.
-use Rattle.std.specs.Prelude.{ℕ, ◌+◌, ◌-◌, ◌*◌, ◌==◌, nat_lt, nat_le, Bool, true, false, not, ◌&&◌, ◌||◌, List, [], ◌∷◌, length, find, Option, Some, None, Result, Ok, Err, ℤ, pos, negsuc, neg_ℤ, bytes_eq, codes, slice_index, slice_range, if◌then◌else◌}
+use Rattle.std.specs.Prelude.{ℕ, ◌+◌, ◌-◌, ◌*◌, ◌==◌, nat_lt, nat_le, Bool, false, not, ◌&&◌, ◌||◌, List, [], ◌∷◌, length, find, Option, Some, None, Result, Ok, Err, ℤ, pos, negsuc, neg_ℤ, bytes_eq, codes, slice_index, slice_range, if◌then◌else◌}
 use Rattle.std.specs.List.{list_all}
 use Rattle.std.specs.Char.{is_ascii_digit, is_ascii_alphanumeric}
 use Rattle.mon_events.specs.Names.{set_of_names}

@@ -1,5 +1,5 @@
 -- The plan that a text is, or its first faulty line: what each line is, behind what the lines before have said.
-use Rattle.std.specs.Prelude.{ℕ, ◌+◌, ◌*◌, nat_lt, nat_le, Bool, true, false, not, ◌||◌, List, [], ◌∷◌, ◌++◌, length, drop, slice_get, Option, Some, None, Result, Ok, Err, ◌==◌, if◌then◌else◌}
+use Rattle.std.specs.Prelude.{ℕ, ◌+◌, ◌*◌, nat_lt, nat_le, Bool, false, not, ◌||◌, List, [], ◌∷◌, ◌++◌, length, drop, slice_get, Option, Some, None, Result, Ok, Err, ◌==◌, if◌then◌else◌}
 use Rattle.mon_code.specs.Programs.{Parts, code_named}
 use Rattle.mon_code.specs.declared.program.Code.{Code}
 use Rattle.mon_history.specs.declared.calls.ControlCall.{ControlCall}
@@ -17,9 +17,7 @@ use Rattle.mon_forms.specs.declared.plan.Plan.{Plan}
 use Rattle.mon_forms.specs.declared.plan.PlanFault.{PlanFault}
 use Rattle.mon_forms.specs.declared.plan.PlanKind.{PlanKind}
 use Rattle.mon_forms.specs.declared.plan.ReportKind.{ReportKind}
-use Rattle.mon_forms.specs.declared.plan.ReportLine.{ReportLine}
 use Rattle.mon_forms.specs.declared.plan.Start.{Start}
-use Rattle.mon_forms.specs.declared.plan.Workload.{Workload}
 
 abbrev pub or_fault : {A : Type 0} → PlanKind → Option A → Result A PlanKind
 or_fault kind None = Err kind

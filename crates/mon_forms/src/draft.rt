@@ -375,6 +375,7 @@ impl Draft {
         ensures fits { OnOk result (KeepsLimits program.now self.new) }
         ensures line { Leaves result self.new (spec.add_line program.now self.old line.now) }
     {
+        // a program has a code for each name
         prove!(program.names.len() == program.codes.len());
         if is_skipped(line) {
             return Ok(());

@@ -155,6 +155,7 @@ pub fn policy_word(policy: Policy) -> &'static str
     }
 }
 
+/// The policy that a word is.
 pub fn policy_of(word: &[u8]) -> Option<Policy>
     ensures { result ≡ spec.policy_of word.now }
 {
@@ -164,6 +165,7 @@ pub fn policy_of(word: &[u8]) -> Option<Policy>
         .find(|policy| policy_word(*policy).as_bytes() == word)
 }
 
+/// The kind of report that a word is.
 pub fn report_of(word: &[u8]) -> Option<ReportKind>
     ensures { result ≡ spec.report_of word.now }
 {

@@ -1,4 +1,4 @@
-use Rattle.std.proofs.Common.{rules, ◌<◌, length, ap, ◌∙◌}
+use Rattle.std.proofs.Common.{rules}
 use Rattle.mon_forms.proofs.Words.{found_line, last_part}
 use Rattle.mon_forms.proofs.lines.next_line.Goals as goal
 
