@@ -48,7 +48,7 @@ const OUTLINES: [(&[u8], &str); 44] = [
     (b"steps 5\nscript\nbefore", "3 Order"),
 ];
 
-/// The plans of the examples.
+/// The plans of the examples, and one of them with an argument too many.
 const EXAMPLES: [(&[u8], &str); 3] = [
     (
         b"steps 200\nthread f 0\nbefore\nuse_tool_id 1 cov\nset_events 1 LINE\nregister_callback 1 LINE keep\n",
