@@ -3,7 +3,8 @@ use Rattle.std.specs.Prelude.{◌≡◌, ℕ, ◌<◌, ◌%◌, ◌==◌, Bool, 
 use Rattle.mon_words.specs.Words.{cell_of, form, need}
 use Rattle.mon_words.specs.Told.{Told, Grows}
 use Rattle.mon_words.specs.declared.tally.Load.{Load}
-use Rattle.mon_words.specs.History.{after}
+use Rattle.mon_words.specs.History.{after, cell_at}
+use Rattle.mon_words.specs.declared.history.Board.{Board}
 use Rattle.mon_words.specs.declared.history.Mark.{Mark}
 use Rattle.mon_recorders.specs.declared.happening.Happening.{Happening}
 use Rattle.mon_recorders.specs.declared.happening.Kind.{Kind}
@@ -12,7 +13,7 @@ use Rattle.mon_recorders.specs.declared.record.Disabled.{Disabled}
 use Rattle.mon_recorders.specs.Happenings.{delivered, answers, records_in, disables_in, is_global_kind}
 use Rattle.mon_recorders.specs.Readings.{OneStep}
 use Rattle.mon_recorders.specs.Boards.{let_through, mark_of, reader}
-use Rattle.mon_hear.specs.Words.{loads}
+use Rattle.mon_hear.specs.Words.{any_global, callback_loads, loads}
 
 -- disables alone
 pub record Disabling (a b : Told) (marks : List Mark) : Type 0 where
@@ -83,3 +84,17 @@ pub record UnwindingHeard (i : ℕ) (events : List Happening) (a b : Told) (old_
   pub records : List Record
   pub records_are : new_records ≡ old_records ++ records
   pub step : OneStep (reader a.number a.first) events i (length a.seen) a.seen b.seen records []
+
+-- the word of a location, and the global word where an event is enabled by it, are those of what was seen before, since when
+-- no board and no mark of this thread was added
+pub record InHand (a b : Told) (location word global : ℕ) (events : List Happening) : Type 0 where
+  pub grows : Grows a b []
+  pub word_is : cell_of word ≡ cell_at (after a.first a.seen) location
+  pub global_is : IsTrue (any_global events) → global ≡ (after a.first a.seen).global
+
+-- by this board nothing is heard of these events and none is answered, and no callback word is due for them
+pub record Unheard (b : Board) (word global : ℕ) (events : List Happening) : Type 0 where
+  pub records : (i : ℕ) → records_in (let_through b) i events ≡ []
+  pub disables : (i : ℕ) → disables_in (let_through b) i events ≡ []
+  pub marks : (t : ℕ) → delivered (answers (let_through b)) (mark_of t) events ≡ []
+  pub loads : callback_loads word global events 6 ≡ []

@@ -3,19 +3,19 @@
 ghost use Rattle.std.specs.Prelude.{◌≡◌, ◌<◌, ◌++◌, ◌∷◌, ℕ, List, OnOk, IsTrue, [], length, None, false};
 ghost use Rattle.mon_words.specs.Words.{cell_of, Quiet};
 ghost use Rattle.mon_words.specs.History.{after, cell_at};
-ghost use Rattle.mon_words.specs.Told.{Told, Grows, Owns};
+ghost use Rattle.mon_words.specs.Told.{Told as ToldOf, Grows, Owns};
 ghost use Rattle.mon_words.specs.declared.tally.Load.{Load};
 ghost use Rattle.mon_recorders.specs.declared.happening.Happening.{Happening as HappeningOf};
 ghost use Rattle.mon_recorders.specs.declared.record.Record.{Record as RecordOf};
 ghost use Rattle.mon_recorders.specs.declared.record.Disabled.{Disabled as DisabledOf};
 ghost use Rattle.mon_recorders.specs.Boards.{AreAt};
-ghost use Rattle.mon_hear.specs.Words.{loads, any_global, globals as globals_of};
+ghost use Rattle.mon_hear.specs.Words.{loads, callback_loads, any_global, globals as globals_of};
 ghost use Rattle.mon_hear.specs.Hearing as spec;
 
 use crate::act::record_events;
 use crate::step::{hear, retire_due};
-use crate::words::load_words;
-use mon_recorders::{Disabled, Happening, Record};
+use crate::words::{load_global, load_global_due, load_words};
+use mon_recorders::{Disabled, Happening, Records};
 use mon_words::{Handle, is_quiet};
 use sqlite_items::Items;
 use std::alloc::AllocError;
@@ -39,12 +39,48 @@ pub fn pass_step<H: Handle>(handle: &mut H, location: u32) -> Option<u64>
     None
 }
 
+/// Loads the global word for a step that has no location. Where it enables nothing, nothing is heard of the step, and there
+/// is no answer; no other word was loaded.
+pub fn pass_unwinding<H: Handle>(handle: &mut H) -> Option<u64>
+    requires attached { IsTrue (H.told handle.old).attached }
+    requires owns { Owns (H.told handle.old) }
+    ensures passed { result ≡ None → (i : ℕ) (events : List HappeningOf) (records : List RecordOf) → spec.AreGlobal events → spec.UnwindingHeard i events (H.told handle.old) (H.told handle.new) records records }
+    ensures word { (word : ℕ) → spec.IsLoaded result word → word ≡ (after (H.told handle.new).first (H.told handle.new).seen).global }
+    ensures loaded { (H.told handle.new).tally.loads ≡ (H.told handle.old).tally.loads ++ Load.Global ∷ [] }
+    ensures grows { Grows (H.told handle.old) (H.told handle.new) [] }
+    ensures same { (H.told handle.new).tally.retirements ≡ (H.told handle.old).tally.retirements }
+    ensures rest { H.rest handle.new ≡ H.rest handle.old }
+{
+    let global = load_global(handle);
+    if global == 0 { None } else { Some(global) }
+}
+
+/// Hears the events of a step that has no location, by the global word in hand.
+pub fn hear_unwinding_asked<H: Handle>(
+    handle: &mut H,
+    global: u64,
+    step: u64,
+    events: &[Happening],
+    records: &mut Records,
+) -> Result<(), AllocError>
+    requires attached { IsTrue (H.told handle.old).attached }
+    requires global { spec.AreGlobal events.now }
+    ensures heard { OnOk result ((a : ToldOf) → Owns a → Grows a (H.told handle.old) [] → (IsTrue (any_global events.now) → global ≡ (after a.first a.seen).global) → spec.UnwindingHeard step events.now a (H.told handle.new) records.old records.new) }
+    ensures loaded { (H.told handle.new).tally.loads ≡ (H.told handle.old).tally.loads ++ callback_loads 0 global events.now 6 }
+    ensures grows { Grows (H.told handle.old) (H.told handle.new) [] }
+    ensures same { (H.told handle.new).tally.retirements ≡ (H.told handle.old).tally.retirements }
+    ensures rest { H.rest handle.new ≡ H.rest handle.old }
+{
+    let words = load_words(handle, 0, global, events);
+    record_events(&words, step, events, records)
+}
+
 /// Hears the events of a step that has no location. They are enabled by the global word alone.
 pub fn hear_unwinding<H: Handle>(
     handle: &mut H,
     step: u64,
     events: &[Happening],
-    records: &mut Items<Record>,
+    records: &mut Records,
 ) -> Result<(), AllocError>
     requires attached { IsTrue (H.told handle.old).attached }
     requires owns { Owns (H.told handle.old) }
@@ -54,8 +90,8 @@ pub fn hear_unwinding<H: Handle>(
     ensures grows { Grows (H.told handle.old) (H.told handle.new) [] }
     ensures rest { H.rest handle.new ≡ H.rest handle.old }
 {
-    let words = load_words(handle, 0, events);
-    record_events(&words, step, events, records)
+    let global = load_global_due(handle, events);
+    hear_unwinding_asked(handle, global, step, events, records)
 }
 
 /// Hears a step at a location where nothing is enabled, by its global events.
@@ -65,7 +101,7 @@ pub fn hear_quiet<H: Handle>(
     word: u64,
     step: u64,
     globals: &[Happening],
-    records: &mut Items<Record>,
+    records: &mut Records,
     disables: &mut Items<Disabled>,
 ) -> Result<(), AllocError>
     requires attached { IsTrue (H.told handle.old).attached }

@@ -5,7 +5,7 @@ ghost use Rattle.mon_words.specs.Told.{Owns};
 ghost use Rattle.mon_hear.specs.Turns as spec;
 
 use crate::step::hear_step;
-use mon_recorders::{Disabled, Happening, Record};
+use mon_recorders::{Disabled, Happening, Records};
 use mon_words::Handle;
 use sqlite_items::Items;
 use std::alloc::AllocError;
@@ -22,7 +22,7 @@ pub fn hear_all<H: Handle>(
     handle: &mut H,
     first: u64,
     turns: &[Turn],
-    records: &mut Items<Record>,
+    records: &mut Records,
     disables: &mut Items<Disabled>,
 ) -> Result<(), AllocError>
     requires attached { IsTrue (H.told handle.old).attached }

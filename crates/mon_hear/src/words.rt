@@ -1,18 +1,21 @@
 //! The words by which a step is heard, each loaded at most once.
 
-ghost use Rattle.std.specs.Prelude.{◌≡◌, ◌<◌, ◌++◌, ◌∷◌, cond, ℕ, IsTrue, [], length, slice_index};
+ghost use Rattle.std.specs.Prelude.{◌≡◌, ◌<◌, ◌+◌, ◌++◌, ◌∷◌, ◌&&◌, ◌==◌, ◌*◌, ◌%◌, ◌^◌, bit_and, bit_or, cond, not, false, ℕ, List, IsTrue, [], length, slice_index};
 ghost use Rattle.mon_events.specs.Events.{rank};
-ghost use Rattle.mon_words.specs.Words.{cell_of, is_wanted, is_called, is_once};
+ghost use Rattle.mon_words.specs.Words.{cell_of, is_bit, is_enabled, is_wanted, is_called, is_once};
 ghost use Rattle.mon_words.specs.History.{after};
-ghost use Rattle.mon_words.specs.Told.{Told, Grows};
+ghost use Rattle.mon_words.specs.Told.{Told as ToldOf, Grows};
 ghost use Rattle.mon_words.specs.declared.tally.Load.{Load};
-ghost use Rattle.mon_recorders.specs.Happenings.{Filter, answers};
+ghost use Rattle.mon_recorders.specs.Happenings.{for_tools};
 ghost use Rattle.mon_recorders.specs.Boards.{is_enabled_by, let_through, AreReadBy};
+ghost use Rattle.mon_recorders.specs.declared.happening.Happening.{Happening as HappeningOf};
+ghost use Rattle.mon_words.specs.declared.history.Board.{Board as BoardOf};
+ghost use Rattle.mon_hear.specs.Hearing.{Unheard};
 ghost use Rattle.mon_hear.specs.Words as spec;
 
 use mon_events::{Event, Slot, is_local};
 use mon_recorders::{Happening, Kind};
-use mon_words::{Handle, enabled, has_bit};
+use mon_words::{Handle, has_bit, is_quiet};
 
 /// The words of a step: its location's, the global one, and the callback words.
 #[derive(Clone, Copy)]
@@ -22,14 +25,29 @@ pub struct Words {
     pub callbacks: [u64; 6],
 }
 
-// Whether the global word asks for an event that is global alone, for a tool.
-fn wanted(word: u64, event: Event, tool: u8) -> bool
-    requires { tool < 6 }
-    ensures { result ≡ is_wanted word (rank event) tool }
+// Six bits of a word, from a place on.
+fn six_bits(word: u64, from: u8) -> u8
+    requires { from < 58 }
+    ensures { (tool : ℕ) → tool < 6 → is_bit result tool ≡ is_bit word (from + tool) }
+{
+    ((word >> from) % 64) as u8
+}
+
+// The tools for which an event of a slot is enabled by a word, as bits 0 to 5.
+fn slot_tools(word: u64, slot: Slot) -> u8
+    ensures { (tool : ℕ) → tool < 6 → is_bit result tool ≡ is_enabled (cell_of word) slot tool }
+{
+    let enabled = ((word >> 16) % 16_777_216) & (word >> 40);
+    six_bits(enabled, 6 * slot.number())
+}
+
+// The tools for which the global word asks for an event that is global alone, as bits 0 to 5.
+fn global_tools(word: u64, event: Event) -> u8
+    ensures { (tool : ℕ) → tool < 6 → is_bit result tool ≡ is_wanted word (rank event) tool }
 {
     match event.rank() {
-        None => false,
-        Some(rank) => has_bit(word, 6 * rank + tool),
+        None => 0,
+        Some(rank) => six_bits(word, 6 * rank),
     }
 }
 
@@ -49,30 +67,65 @@ fn once(word: u64, event: Event) -> bool
     is_local(event) && !has_bit(word, bit) && has_bit(word, bit + 1)
 }
 
-// Whether an event is enabled for a tool by these words.
-fn enables(word: u64, global: u64, event: &Happening, tool: u8) -> bool
-    requires { tool < 6 }
-    ensures { result ≡ is_enabled_by (λ l. cell_of word) global event.now.kind tool event.now.event }
+// The tools for which an event is enabled by these words, as bits 0 to 5.
+fn enabled_tools(word: u64, global: u64, event: &Happening) -> u8
+    ensures { (tool : ℕ) → tool < 6 → is_bit result tool ≡ is_enabled_by (λ l. cell_of word) global event.now.kind tool event.now.event }
 {
     match event.kind {
-        Kind::Local(_, slot) => enabled(word, slot, tool),
-        Kind::Ancillary(_) => enabled(word, Slot::Main, tool),
-        Kind::Global => wanted(global, event.event, tool),
+        Kind::Local(_, slot) => slot_tools(word, slot),
+        Kind::Ancillary(_) => slot_tools(word, Slot::Main),
+        Kind::Global => global_tools(global, event.event),
     }
 }
 
+// The tools with one more, if it is chosen.
+fn with_tool(tools: u8, tool: u8, is_chosen: bool) -> u8
+    requires { tool < 6 }
+    ensures { result ≡ cond is_chosen (bit_or tools (1 * 2 ^ tool % 256)) tools }
+{
+    if is_chosen { tools | 1 << tool } else { tools }
+}
+
+// Whether a tool is one of these, and its callback word has a policy for an event.
+fn is_called_by(callbacks: &[u64; 6], event: Event, tools: u8, tool: u8) -> bool
+    requires { tool < 6 }
+    ensures { result ≡ (is_bit tools tool && is_called (slice_index callbacks.now tool) event) }
+{
+    has_bit(u64::from(tools), tool) && called(callbacks[tool as usize], event)
+}
+
+// Of these tools, those whose callback word has a policy for an event.
+fn called_tools(callbacks: &[u64; 6], event: Event, tools: u8) -> u8
+    ensures { (tool : ℕ) → tool < 6 → is_bit result tool ≡ (is_bit tools tool && is_called (slice_index callbacks.now tool) event) }
+{
+    let mut called_by = 0u8;
+    for tool in 0..6u8 {
+        called_by = with_tool(called_by, tool, is_called_by(callbacks, event, tools, tool));
+    }
+    called_by
+}
+
 impl Words {
-    ghost use Rattle.std.specs.Prelude.{◌≡◌, ◌<◌};
+    ghost use Rattle.std.specs.Prelude.{◌≡◌, ◌<◌, ℕ};
+    ghost use Rattle.mon_words.specs.Words.{is_bit};
     ghost use Rattle.mon_recorders.specs.Happenings.{Filter, answers};
     ghost use Rattle.mon_hear.specs.Words as spec;
+
+    /// The tools that an event is delivered to, as bits 0 to 5.
+    pub fn hearers(&self, event: &Happening) -> u8
+        ensures { (tool : ℕ) → tool < 6 → is_bit result tool ≡ (spec.filter self.now).hears tool event.now }
+    {
+        let tools = enabled_tools(self.word, self.global, event);
+        called_tools(&self.callbacks, event.event, tools)
+    }
 
     /// Whether an event is delivered to a tool.
     pub fn hears(&self, event: &Happening, tool: u8) -> bool
         requires { tool < 6 }
         ensures { result ≡ (spec.filter self.now).hears tool event.now }
     {
-        enables(self.word, self.global, event, tool)
-            && called(self.callbacks[tool as usize], event.event)
+        let tools = enabled_tools(self.word, self.global, event);
+        is_called_by(&self.callbacks, event.event, tools, tool)
     }
 
     /// Whether it is answered by a disable.
@@ -80,9 +133,9 @@ impl Words {
         requires { tool < 6 }
         ensures { result ≡ answers (spec.filter self.now) tool event.now }
     {
-        self.hears(event, tool)
-            && matches!(event.kind, Kind::Local(_, _))
+        matches!(event.kind, Kind::Local(_, _))
             && once(self.callbacks[tool as usize], event.event)
+            && self.hears(event, tool)
     }
 }
 
@@ -98,21 +151,31 @@ fn any_global(events: &[Happening]) -> bool
     false
 }
 
-// Whether some event is enabled for a tool.
-fn any_enabled(word: u64, global: u64, events: &[Happening], tool: u8) -> bool
-    requires { tool < 6 }
-    ensures { result ≡ spec.any_enabled word global tool events.now }
+// The tools for which some event is enabled, as bits 0 to 5.
+fn asking_tools(word: u64, global: u64, events: &[Happening]) -> u8
+    ensures { (tool : ℕ) → tool < 6 → is_bit result tool ≡ spec.any_enabled word global tool events.now }
 {
+    let mut tools = 0u8;
     for event in events {
-        if enables(word, global, event, tool) {
-            return true;
-        }
+        tools |= enabled_tools(word, global, event);
     }
-    false
+    tools
 }
 
-// The global word, where an event is enabled by it.
-fn load_global<H: Handle>(handle: &mut H, events: &[Happening]) -> u64
+/// The global word.
+pub fn load_global<H: Handle>(handle: &mut H) -> u64
+    requires attached { IsTrue (H.told handle.old).attached }
+    ensures value { result ≡ (after (H.told handle.old).first (H.told handle.old).seen).global }
+    ensures grows { Grows (H.told handle.old) (H.told handle.new) [] }
+    ensures same { (H.told handle.new).tally.retirements ≡ (H.told handle.old).tally.retirements }
+    ensures loaded { (H.told handle.new).tally.loads ≡ (H.told handle.old).tally.loads ++ Load.Global ∷ [] }
+    ensures rest { H.rest handle.new ≡ H.rest handle.old }
+{
+    handle.global()
+}
+
+/// The global word, where an event is enabled by it; else 0.
+pub fn load_global_due<H: Handle>(handle: &mut H, events: &[Happening]) -> u64
     requires attached { IsTrue (H.told handle.old).attached }
     ensures value { IsTrue (spec.any_global events.now) → result ≡ (after (H.told handle.old).first (H.told handle.old).seen).global }
     ensures grows { Grows (H.told handle.old) (H.told handle.new) [] }
@@ -121,71 +184,69 @@ fn load_global<H: Handle>(handle: &mut H, events: &[Happening]) -> u64
     ensures rest { H.rest handle.new ≡ H.rest handle.old }
 {
     if any_global(events) {
-        handle.global()
+        load_global(handle)
     } else {
         0
     }
 }
 
-// The callback word of a tool, where an event is enabled for it.
-fn load_one<H: Handle>(
-    handle: &mut H,
-    word: u64,
-    global: u64,
-    events: &[Happening],
-    tool: u8,
-) -> u64
+// The callback word of a tool, where it is among these.
+fn load_one<H: Handle>(handle: &mut H, tools: u8, tool: u8) -> u64
     requires attached { IsTrue (H.told handle.old).attached }
     requires tool { tool < 6 }
-    ensures value { IsTrue (spec.any_enabled word global tool events.now) → result ≡ slice_index (after (H.told handle.old).first (H.told handle.old).seen).callbacks tool }
+    ensures value { IsTrue (is_bit tools tool) → result ≡ slice_index (after (H.told handle.old).first (H.told handle.old).seen).callbacks tool }
     ensures grows { Grows (H.told handle.old) (H.told handle.new) [] }
     ensures same { (H.told handle.new).tally.retirements ≡ (H.told handle.old).tally.retirements }
-    ensures loaded { (H.told handle.new).tally.loads ≡ (H.told handle.old).tally.loads ++ cond (spec.any_enabled word global tool events.now) (Load.Callbacks tool ∷ []) [] }
+    ensures loaded { (H.told handle.new).tally.loads ≡ (H.told handle.old).tally.loads ++ cond (is_bit tools tool) (Load.Callbacks tool ∷ []) [] }
     ensures rest { H.rest handle.new ≡ H.rest handle.old }
 {
-    if any_enabled(word, global, events, tool) {
+    if has_bit(u64::from(tools), tool) {
         handle.callbacks(tool)
     } else {
         0
     }
 }
 
-// The callback word of each tool for which an event is enabled.
-fn load_callbacks<H: Handle>(
-    handle: &mut H,
-    word: u64,
-    global: u64,
-    events: &[Happening],
-) -> [u64; 6]
+// The callback word of each of these tools.
+fn load_callbacks<H: Handle>(handle: &mut H, tools: u8) -> [u64; 6]
     requires attached { IsTrue (H.told handle.old).attached }
-    ensures value { (tool : ℕ) → tool < 6 → IsTrue (spec.any_enabled word global tool events.now) → slice_index result tool ≡ slice_index (after (H.told handle.old).first (H.told handle.old).seen).callbacks tool }
+    ensures value { (tool : ℕ) → tool < 6 → IsTrue (is_bit tools tool) → slice_index result tool ≡ slice_index (after (H.told handle.old).first (H.told handle.old).seen).callbacks tool }
+    ensures grows { Grows (H.told handle.old) (H.told handle.new) [] }
+    ensures same { (H.told handle.new).tally.retirements ≡ (H.told handle.old).tally.retirements }
+    ensures loaded { (H.told handle.new).tally.loads ≡ (H.told handle.old).tally.loads ++ for_tools (is_bit tools) Load.Callbacks 6 }
+    ensures rest { H.rest handle.new ≡ H.rest handle.old }
+{
+    let mut callbacks = [0; 6];
+    for tool in 0..6u8 {
+        callbacks[tool as usize] = load_one(handle, tools, tool);
+    }
+    callbacks
+}
+
+/// The words by which events are heard, two of which are in hand. They let through what the board does for which those two
+/// stand.
+pub fn load_words<H: Handle>(handle: &mut H, word: u64, global: u64, events: &[Happening]) -> Words
+    requires attached { IsTrue (H.told handle.old).attached }
+    ensures agree { (a : ToldOf) → Grows a (H.told handle.old) [] → AreReadBy (after a.first a.seen) word events.now → (IsTrue (spec.any_global events.now) → global ≡ (after a.first a.seen).global) → spec.Agree (let_through (after a.first a.seen)) (spec.filter result) events.now }
     ensures grows { Grows (H.told handle.old) (H.told handle.new) [] }
     ensures same { (H.told handle.new).tally.retirements ≡ (H.told handle.old).tally.retirements }
     ensures loaded { (H.told handle.new).tally.loads ≡ (H.told handle.old).tally.loads ++ spec.callback_loads word global events.now 6 }
     ensures rest { H.rest handle.new ≡ H.rest handle.old }
 {
-    let mut callbacks = [0; 6];
-    for tool in 0..6u8 {
-        callbacks[tool as usize] = load_one(handle, word, global, events, tool);
-    }
-    callbacks
-}
-
-/// The words by which events are heard: they let through what the board of the history does.
-pub fn load_words<H: Handle>(handle: &mut H, word: u64, events: &[Happening]) -> Words
-    requires attached { IsTrue (H.told handle.old).attached }
-    requires here { AreReadBy (after (H.told handle.old).first (H.told handle.old).seen) word events.now }
-    ensures agree { spec.Agree (let_through (after (H.told handle.old).first (H.told handle.old).seen)) (spec.filter result) events.now }
-    ensures grows { Grows (H.told handle.old) (H.told handle.new) [] }
-    ensures same { (H.told handle.new).tally.retirements ≡ (H.told handle.old).tally.retirements }
-    ensures loaded { (H.told handle.new).tally.loads ≡ (H.told handle.old).tally.loads ++ spec.loads word (after (H.told handle.old).first (H.told handle.old).seen).global events.now }
-    ensures rest { H.rest handle.new ≡ H.rest handle.old }
-{
-    let global = load_global(handle, events);
-    let callbacks = load_callbacks(handle, word, global, events);
+    let tools = asking_tools(word, global, events);
+    let callbacks = load_callbacks(handle, tools);
     Words {
         word,
         global,
         callbacks,
     }
+}
+
+/// Whether the word of a location or the global word enables anything. Where neither does, nothing is heard of any events
+/// that are enabled by these words alone, and no callback word is due.
+pub fn asks(word: u64, global: u64) -> bool
+    ensures bits { result ≡ not (bit_and (cell_of word).want (cell_of word).live == 0 && global == 0) }
+    ensures nothing { result ≡ false → (b : BoardOf) (events : List HappeningOf) → AreReadBy b word events → (IsTrue (spec.any_global events) → global ≡ b.global) → Unheard b word global events }
+{
+    !is_quiet(word) || global != 0
 }

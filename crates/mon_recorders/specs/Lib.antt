@@ -4,3 +4,4 @@ pub mod Boards
 pub mod Laws
 pub mod Proper
 pub mod Examples
+pub mod Kept

@@ -1,21 +1,23 @@
-use Rattle.std.proofs.Common.{[], ap}
+use Rattle.std.proofs.Common.{◌++◌, ap, ◌∙◌, subst, sym, append_assoc}
 use Rattle.mon_words.specs.History.{after}
 use Rattle.mon_words.specs.Told.{Told}
-use Rattle.mon_hear.specs.Words.{filter}
-use Rattle.mon_words.proofs.Growing.{grows_trans}
-use Rattle.mon_hear.proofs.Steps.{all_read, all_within_of, heard, on_ok-both}
+use Rattle.mon_hear.specs.Words as spec
+use Rattle.mon_hear.proofs.Agreeing.{loads_same}
+use Rattle.mon_hear.proofs.Steps.{on_ok-then, retiring_from}
 use Rattle.mon_hear.proofs.step.hear.Goals as goal
 
-pub load_words-words-requires-clause-here : goal.load_words-words-requires-clause-here
-load_words-words-requires-clause-here g c = all_read (after (g.H.Handle.told c.args.handle.now).first (g.H.Handle.told c.args.handle.now).seen) c.args.word c.args.location c.args.events.now c.requires.loaded c.requires.here
-
-pub answer_events-requires-clause-within : goal.answer_events-requires-clause-within
-answer_events-requires-clause-within g c =
-    let grows = grows_trans (g.H.Handle.told c.args.handle.now) (g.H.Handle.told c.load_words-words.new.handle) (g.H.Handle.told c.retire_due.new.handle) [] [] c.load_words-words.ensures.grows c.retire_due.ensures.grows in
-    all_within_of (g.H.Handle.told c.args.handle.now) (g.H.Handle.told c.retire_due.new.handle) c.args.location c.args.events.now (ap (λ (t : Told). t.first) grows.rest) c.requires.within c.requires.here
-
 pub returns-clause-heard : goal.returns-clause-heard
-returns-clause-heard g c = on_ok-both c.answer_events.result
-    (λ marks disables. heard c.args.step c.args.events.now (filter c.load_words-words.result) (g.H.Handle.told c.args.handle.now) (g.H.Handle.told c.load_words-words.new.handle) (g.H.Handle.told c.retire_due.new.handle) (g.H.Handle.told c.answer_events.new.handle)
-    c.args.records.now _ c.args.disables.now _ c.load_words-words.ensures.agree c.load_words-words.ensures.grows c.retire_due.ensures.grows c.in_ok-record_events.ensures marks disables)
-    c.answer_events.ensures.marks c.answer_events.ensures.disables
+returns-clause-heard g c = let o = c.load_global_due-global.ensures in on_ok-then c.hear_asked.result
+    (λ heard. heard (g.H.Handle.told c.args.handle.now) (record { grows = o.grows; word_is = c.requires.loaded; global_is = o.value })) c.hear_asked.ensures.heard
+
+pub returns-clause-loaded : goal.returns-clause-loaded
+returns-clause-loaded g c =
+    let a = g.H.Handle.told c.args.handle.now in let es = c.args.events.now in let o = c.load_global_due-global.ensures in
+    c.hear_asked.ensures.loaded ∙ (ap (λ z. z ++ spec.callback_loads c.args.word c.load_global_due-global.result es 6) o.loaded
+    ∙ (append_assoc a.tally.loads (spec.global_load es) (spec.callback_loads c.args.word c.load_global_due-global.result es 6)
+    ∙ ap (λ z. a.tally.loads ++ (spec.global_load es ++ z)) (loads_same c.args.word c.load_global_due-global.result (after a.first a.seen).global es o.value)))
+
+pub returns-clause-retired : goal.returns-clause-retired
+returns-clause-retired g c = on_ok-then c.hear_asked.result
+    (λ r. retiring_from (g.H.Handle.told c.args.handle.now) (g.H.Handle.told c.load_global_due-global.new.handle) (g.H.Handle.told c.hear_asked.new.handle) c.args.location c.args.word c.load_global_due-global.ensures.same r)
+    c.hear_asked.ensures.retired
