@@ -13,14 +13,12 @@ use Rattle.mon_recorders.specs.declared.report.Outcome.{Outcome}
 use Rattle.mon_machine.specs.declared.mode.Mode.{Mode}
 use Rattle.mon_machine.specs.State.{State, start, goes}
 use Rattle.mon_machine.specs.Step.{step}
-use Rattle.mon_machine.specs.Run.{after_steps, outcome_of, is_heard, heard}
-use Rattle.mon_machine.specs.Serial.{wants_line}
-use Rattle.mon_machine.specs.Laws.{AllRun, IsCall, NeverStuck, FitsDepths, HasDepths, DepthsAsRecorded, LimitsAreBounds, LineMarks, ProperEvents, HeardByWants}
+use Rattle.mon_machine.specs.Run.{after_steps, outcome_of}
+use Rattle.mon_machine.specs.Laws.{AllRun, IsCall, NeverStuck, FitsDepths, HasDepths, DepthsAsRecorded, LimitsAreBounds, LineMarks, ProperEvents}
 use Rattle.mon_machine.proofs.Fitting.{FoundAt, found_at, checked_code}
 use Rattle.mon_machine.proofs.Keeping.{IsAt, Waits, Waiting, HasTop, IsOwn, IsIn, Keeps, called_at}
 use Rattle.mon_machine.proofs.Runs.{steps_done_on}
 use Rattle.mon_machine.proofs.Stepping.{step_steps}
-use Rattle.mon_machine.proofs.Heard.{heard_marked, records_of_lines}
 
 run_keeps : (p : Parts) (s : State) (n : ℕ) → AllRun p → IsChecked p → Keeps p s → Keeps p (after_steps p s n)
 unfolding after_steps
@@ -100,9 +98,3 @@ line_marks p k c args call n = (step_steps p (after_steps p (start c k args) n) 
 
 pub proper_events : ProperEvents
 proper_events p k c args call n = (step_steps p (after_steps p (start c k args) n) call.runs call.checked (call_keeps p k c args call n)).proper
-
-pub heard_by_wants : HeardByWants
-heard_by_wants p k c args call tool b wants = record { each_step = each; whole_run = λ i positions. records_of_lines p tool b i (start c k args) positions each }
-  where
-    each : (n i : ℕ) → heard (is_heard b) i (step p (after_steps p (start c k args) n)).events ≡ heard (wants_line tool) i (step p (after_steps p (start c k args) n)).events
-    each n i = heard_marked p tool b i (step p (after_steps p (start c k args) n)).events wants (line_marks p k c args call n)

@@ -33,7 +33,7 @@ use Rattle.mon_recorders.proofs.Spans.{in_turn_none, in_turn_more, in_turn_same}
 use Rattle.mon_machine.specs.declared.mode.Mode.{Mode}
 use Rattle.mon_machine.specs.State.{State, start}
 use Rattle.mon_machine.specs.Step.{step}
-use Rattle.mon_machine.specs.Run.{after_steps, heard, is_heard, is_line}
+use Rattle.mon_machine.specs.Run.{after_steps, heard, is_line}
 use Rattle.mon_machine.specs.Serial.{wants_line, line_records, WantsLine, HasLineWants}
 use Rattle.mon_machine.specs.Laws.{IsCall, MarksLine, is_line_kind}
 use Rattle.mon_machine.specs.Advances.{Progress, nothing_done, Due, due_at, due_in, due_in_top, due_in_mode, instruction_due, events_from, Ran}
@@ -41,7 +41,7 @@ use Rattle.mon_machine.specs.AdvanceLaws.{StandAt, KeepsLines, KeptLines, LinesA
 use Rattle.mon_machine.proofs.Bare.{no_bit}
 use Rattle.mon_machine.proofs.BareAdvances.{wanted_none, turns_none}
 use Rattle.mon_machine.proofs.Calls.{line_marks}
-use Rattle.mon_machine.proofs.Heard.{heard_kind, bit_is, line_records_none, line_records_more, line_records_sum}
+use Rattle.mon_machine.proofs.Heard.{line_enabled, bit_is, line_records_none, line_records_more, line_records_sum}
 use Rattle.mon_machine.proofs.Locating.{events_stand}
 
 -- ---- the instruction that is due stands at a location of the program
@@ -88,14 +88,14 @@ module _ (p : Parts) (tool : ℕ) (b : Board) (keeps : KeepsLines p tool b) wher
   slot_other : (location : ℕ) (slot : Slot) (t : ℕ) → Found p tool b location → tool < place slot t → is_enabled (cell_at b location) slot t ≡ false
   slot_other location slot t f h = ap (λ (x : Bool). x && is_bit (cell_at b location).live (place slot t)) (want_other tool (cell_at b location).want f.at.is_marked (place slot t) f.wants.want h)
 
-  enabled_local : (location : ℕ) (slot : Slot) (t : ℕ) → is_heard b (Local location slot) t ≡ wants_line tool (Local location slot) t → Found p tool b location → is_enabled (cell_at b location) slot t ≡ wants_line tool (Local location slot) t
-  enabled_local location Slot.Line t same f = same
+  enabled_local : (location : ℕ) (slot : Slot) (t : ℕ) → (slot ≡ Slot.Line → is_enabled (cell_at b location) Slot.Line t ≡ (t == tool)) → Found p tool b location → is_enabled (cell_at b location) slot t ≡ wants_line tool (Local location slot) t
+  enabled_local location Slot.Line t same f = same refl
   enabled_local location Slot.Instruction t same f = slot_other location Slot.Instruction t f (omega (arith, keeps.wants.within))
   enabled_local location Slot.Main t same f = slot_other location Slot.Main t f (omega (arith, keeps.wants.within))
   enabled_local location Slot.Spare t same f = slot_other location Slot.Spare t f (omega (arith, keeps.wants.within))
 
-  enabled_at : (location : ℕ) (kind : Kind) (t : ℕ) (e : Event) → IsAt location kind → is_heard b kind t ≡ wants_line tool kind t → Found p tool b location → is_enabled_by (cell_at b) b.global kind t e ≡ wants_line tool kind t
-  enabled_at location (Local l s) t e at same f = enabled_local l s t same (subst (λ (n : ℕ). Found p tool b n) (sym at) f)
+  enabled_at : (location : ℕ) (kind : Kind) (t : ℕ) (e : Event) → IsAt location kind → ((l : ℕ) → kind ≡ Local l Slot.Line → is_enabled (cell_at b l) Slot.Line t ≡ (t == tool)) → Found p tool b location → is_enabled_by (cell_at b) b.global kind t e ≡ wants_line tool kind t
+  enabled_at location (Local l s) t e at same f = enabled_local l s t (λ is. same l (ap (Local l) is)) (subst (λ (n : ℕ). Found p tool b n) (sym at) f)
   enabled_at location (Ancillary l) t e at same f = slot_other l Slot.Main t (subst (λ (n : ℕ). Found p tool b n) (sym at) f) (omega (arith, keeps.wants.within))
   enabled_at location Global t e at same f = wanted_none b.global (rank e) t keeps.global
 
@@ -148,7 +148,7 @@ module _ (p : Parts) (tool : ℕ) (b : Board) (keeps : KeepsLines p tool b) wher
   lets_at : (location : ℕ) (es : List Happening) → AreAt location es → AllByRecursion (MarksLine p) es → Found p tool b location → AllByRecursion Lets es
   unfolding Lets
   lets_at location [] at marks f = tt
-  lets_at location (e ∷ es) at marks f = (λ t l. one e t marks.0 (enabled_at location e.kind t e.event at.0 (heard_kind p tool b e keeps.wants marks.0 t l) f), lets_at location es at.1 marks.1 f)
+  lets_at location (e ∷ es) at marks f = (λ t l. one e t marks.0 (enabled_at location e.kind t e.event at.0 (λ n is. line_enabled p tool b e keeps.wants marks.0 n t l is) f), lets_at location es at.1 marks.1 f)
 
   lets_global : (es : List Happening) → StandAt None es → AllByRecursion (MarksLine p) es → AllByRecursion Lets es
   unfolding Lets

@@ -11,7 +11,6 @@ use Rattle.mon_code.specs.Programs.{Parts, location_at, op_in}
 use Rattle.mon_code.specs.Checked.{IsChecked}
 use Rattle.mon_code.specs.Sites.{sites_of}
 use Rattle.mon_recorders.specs.Proper.{AreProper}
-use Rattle.mon_words.specs.declared.history.Board.{Board}
 use Rattle.mon_frames.specs.declared.frame.Frame.{Frame}
 use Rattle.mon_frames.specs.declared.call.Call.{Call}
 use Rattle.mon_frames.specs.Views.{top_of}
@@ -22,9 +21,8 @@ use Rattle.mon_recorders.specs.declared.happening.Kind.TheVariants.{Local, Globa
 use Rattle.mon_machine.specs.declared.mode.Mode.{Mode}
 use Rattle.mon_machine.specs.State.{State, goes, start}
 use Rattle.mon_machine.specs.Step.{step}
-use Rattle.mon_machine.specs.Run.{after_steps, steps_done, printed_by, outcome_of, Goes, is_line, is_heard, heard, records_of}
+use Rattle.mon_machine.specs.Run.{after_steps, steps_done, printed_by, outcome_of, Goes, is_line}
 use Rattle.mon_machine.specs.PlainRun.{state_at, events_at}
-use Rattle.mon_machine.specs.Serial.{wants_line, line_records, HasLineWants}
 
 -- a run goes on by one step; a thread that goes on before each of n steps does n of them; where it then does not go on,
 -- that is all that it ever does, and it stands still
@@ -123,11 +121,3 @@ LineMarks = (p : Parts) (k : ℕ) (c : Code) (args : List Value) → IsCall p k 
 -- and each event stands where its kind says
 abbrev pub ProperEvents : Type 0
 ProperEvents = (p : Parts) (k : ℕ) (c : Code) (args : List Value) → IsCall p k c args → (n : ℕ) → AreProper (sites_of p) (step p (after_steps p (start c k args) n)).events
-
--- a tool that such a board enables for LINE alone hears of each step, and of a whole run, its LINE events and nothing else
-pub record HearsLines (p : Parts) (tool : ℕ) (b : Board) (s : State) : Type 0 where
-  pub each_step : (n i : ℕ) → let events = (step p (after_steps p s n)).events in heard (is_heard b) i events ≡ heard (wants_line tool) i events
-  pub whole_run : (i : ℕ) (positions : List ℕ) → records_of p b [] i s positions ≡ line_records p tool i s (length positions)
-
-abbrev pub HeardByWants : Type 0
-HeardByWants = (p : Parts) (k : ℕ) (c : Code) (args : List Value) → IsCall p k c args → (tool : ℕ) (b : Board) → HasLineWants p tool b → HearsLines p tool b (start c k args)

@@ -1,6 +1,7 @@
 -- The text of a report, as bytes: the journal of the plan's calls, the thread's name, what it printed, its records, and how
 -- it ended.
-use Rattle.std.specs.Prelude.{ℕ, List, [], ◌∷◌, ◌++◌, Bool, true, false, codes, encode_utf8_all}
+use Rattle.std.specs.Prelude.{◌≡◌, ℕ, List, [], ◌∷◌, ◌++◌, map, Bool, true, false, codes, encode_utf8_all, String, string_bytes}
+use Rattle.std.specs.declared.alloc.Global.{Global}
 use Rattle.std.specs.Fmt.{decimal}
 use Rattle.mon_code.specs.Programs.{Parts}
 use Rattle.mon_events.specs.Events as events
@@ -12,6 +13,10 @@ use Rattle.mon_values.specs.Classes.{name_at}
 use Rattle.mon_values.specs.Printing.{repr_of}
 use Rattle.mon_main.specs.declared.plan.Plan.{Plan}
 use Rattle.mon_main.specs.Plans.{set_call, register_call}
+
+-- these are the names of a program's codes, as bytes
+pub record AreNames (p : Parts) (names : List (String Global)) : Type 0 where
+  pub are : map string_bytes names ≡ map encode_utf8_all p.names
 
 -- the name of a code
 abbrev pub code_text : Parts → ℕ → List ℕ

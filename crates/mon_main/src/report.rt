@@ -2,17 +2,21 @@ ghost use Rattle.std.specs.Prelude.{◌≡◌, ◌++◌, [], IfOk, OnOk, string_
 ghost use Rattle.std.specs.Fmt.{decimal};
 ghost use Rattle.mon_values.specs.Printing.{repr_of};
 ghost use Rattle.mon_main.specs.Plans.{set_call as set_call_text, register_call as register_call_text};
+ghost use Rattle.mon_code.specs.Programs.{Parts};
 ghost use Rattle.mon_main.specs.Texts.{report_text};
 ghost use Rattle.mon_main.specs.Texts as spec;
 
 use crate::plan::Plan;
 use crate::read::{register_call, set_call};
 use mon_code::Program;
-use mon_recorders::{Outcome, Record, ThreadReport};
+use mon_recorders::{Delivery, Outcome, Records, ThreadReport};
 use mon_values::print::repr;
 use mon_values::text::Text;
 use mon_values::value::{Exc, Value};
 use std::alloc::{AllocError, Global};
+
+// About as many bytes as the line of a record takes.
+const RECORD_BYTES: usize = 24;
 
 fn write_chars(out: &mut String, chars: &[char]) -> Result<(), AllocError>
     ensures { OnOk result (string_bytes out.new ≡ string_bytes out.old ++ encode_utf8_all chars.now) }
@@ -26,7 +30,36 @@ fn write_chars(out: &mut String, chars: &[char]) -> Result<(), AllocError>
 fn write_number(out: &mut String, n: u64) -> Result<(), AllocError>
     ensures { OnOk result (string_bytes out.new ≡ string_bytes out.old ++ decimal n) }
 {
-    write!(out, "{n}")
+    out.push_str(itoa::Buffer::new().format(n))
+}
+
+fn encoded(alloc: Global, chars: &[char]) -> Result<String, AllocError>
+    ensures { IfOk result (λ text. string_bytes text ≡ encode_utf8_all chars.now) }
+{
+    let mut text = String::new(alloc);
+    write_chars(&mut text, chars)?;
+    Ok(text)
+}
+
+/// The names of the codes, as bytes.
+fn code_names(alloc: Global, program: &Program) -> Result<Vec<String>, AllocError>
+    ensures { IfOk result (λ names. spec.AreNames program.now names.items) }
+{
+    let mut names = Vec::new(alloc);
+    for name in program.names.as_slice() {
+        names.push(encoded(alloc, name.chars())?)?;
+    }
+    Ok(names)
+}
+
+/// The name of a code among those of all; nothing where there is none.
+fn write_name(out: &mut String, names: &[String], code: u16) -> Result<(), AllocError>
+    ensures { OnOk result ((p : Parts) → spec.AreNames p names.now → string_bytes out.new ≡ string_bytes out.old ++ spec.code_text p code) }
+{
+    match names.get(code as usize) {
+        None => Ok(()),
+        Some(name) => out.push_str(name.as_str()),
+    }
 }
 
 /// The name of a code; nothing where there is none.
@@ -110,42 +143,63 @@ fn write_thread(out: &mut String, program: &Program, code: u16) -> Result<(), Al
 fn write_record_front(out: &mut String, step: u64, tool: u8) -> Result<(), AllocError>
     ensures { OnOk result (string_bytes out.new ≡ string_bytes out.old ++ spec.record_front step tool) }
 {
-    write!(out, "rec {step} {tool} ")
+    out.push_str("rec ")?;
+    write_number(out, step)?;
+    out.push_str(" ")?;
+    write_number(out, u64::from(tool))?;
+    out.push_str(" ")
 }
 
 /// A record up to its event.
-fn write_record_head(out: &mut String, delivery: &Record) -> Result<(), AllocError>
+fn write_record_head(out: &mut String, delivery: &Delivery<'_>) -> Result<(), AllocError>
     ensures { OnOk result (string_bytes out.new ≡ string_bytes out.old ++ spec.record_head delivery.now) }
 {
-    write_record_front(out, delivery.step, delivery.tool)?;
-    out.push_str(delivery.event.name())?;
+    write_record_front(out, delivery.step(), delivery.tool())?;
+    out.push_str(delivery.event().name())?;
     out.push_str(" ")
 }
 
 /// What a record has behind its code.
-fn write_arguments(out: &mut String, delivery: &Record) -> Result<(), AllocError>
+fn write_arguments(out: &mut String, delivery: &Delivery<'_>) -> Result<(), AllocError>
     ensures { OnOk result (string_bytes out.new ≡ string_bytes out.old ++ spec.arguments_text delivery.now) }
 {
     out.push_str(" ")?;
-    write_number(out, u64::from(delivery.at))
+    write_number(out, u64::from(delivery.at()))
 }
 
-fn write_record(out: &mut String, program: &Program, delivery: &Record) -> Result<(), AllocError>
-    ensures { OnOk result (string_bytes out.new ≡ string_bytes out.old ++ spec.record_line program.now delivery.now) }
+fn write_record(
+    out: &mut String,
+    names: &[String],
+    delivery: &Delivery<'_>,
+) -> Result<(), AllocError>
+    ensures { OnOk result ((p : Parts) → spec.AreNames p names.now → string_bytes out.new ≡ string_bytes out.old ++ spec.record_line p delivery.now) }
 {
     write_record_head(out, delivery)?;
-    write_code(out, program, delivery.code)?;
+    write_name(out, names, delivery.code())?;
     write_arguments(out, delivery)?;
     out.push_str("\n")
 }
 
-fn write_records(out: &mut String, program: &Program, records: &[Record]) -> Result<(), AllocError>
-    ensures { OnOk result (string_bytes out.new ≡ string_bytes out.old ++ spec.records_text program.now records.now) }
+fn write_lines(out: &mut String, names: &[String], records: &Records) -> Result<(), AllocError>
+    ensures { OnOk result ((p : Parts) → spec.AreNames p names.now → string_bytes out.new ≡ string_bytes out.old ++ spec.records_text p records.now) }
 {
-    for record in records {
-        write_record(out, program, record)?;
+    for index in 0..records.len() {
+        write_record(out, names, &records.delivery(index))?;
     }
     Ok(())
+}
+
+fn write_records(
+    alloc: Global,
+    out: &mut String,
+    program: &Program,
+    records: &Records,
+) -> Result<(), AllocError>
+    ensures { OnOk result (string_bytes out.new ≡ string_bytes out.old ++ spec.records_text program.now records.now) }
+{
+    let names = code_names(alloc, program)?;
+    out.reserve(records.len().saturating_mul(RECORD_BYTES))?;
+    write_lines(out, names.as_slice(), records)
 }
 
 /// The `repr` of a value, with the names of the program's functions.
@@ -253,7 +307,7 @@ pub fn print_report(
     write_journal(alloc, &mut out, plan)?;
     write_thread(&mut out, program, plan.code)?;
     write_outs(alloc, &mut out, program, report.printed.as_slice())?;
-    write_records(&mut out, program, report.records.as_slice())?;
+    write_records(alloc, &mut out, program, &report.records)?;
     write_end(alloc, &mut out, program, report)?;
     Ok(out.into_bytes())
 }

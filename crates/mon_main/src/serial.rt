@@ -91,8 +91,9 @@ fn first_words(
     ensures checked { IsChecked program.now }
     ensures words { IfOk result (λ words. words.items ≡ words_of_run program.now tool) }
 {
+    let locations = program.locations() as usize;
     let mut words = words_ahead(alloc, tool)?;
-    words.reserve(program.locations() as usize)?;
+    words.reserve(locations)?;
     for code in program.codes.as_slice() {
         push_words(&mut words, bases, tool, code)?;
     }
