@@ -1,4 +1,5 @@
 pub mod Answered
+pub mod Asking
 pub mod Builtins
 pub mod Globals
 pub mod Heard
@@ -6,6 +7,7 @@ pub mod InPlace
 pub mod Instructing
 pub mod Iterated
 pub mod Matching
+pub mod Operands
 pub mod Performing
 pub mod Results
 pub mod Runs

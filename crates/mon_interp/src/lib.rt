@@ -5,6 +5,7 @@
 mod answer;
 mod call;
 mod done;
+mod events;
 mod global;
 mod handling;
 mod hear;
@@ -18,6 +19,7 @@ mod perform;
 mod quick;
 mod sequence;
 mod settle;
+mod shows;
 mod step;
 mod thread;
 
