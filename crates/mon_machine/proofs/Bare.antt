@@ -65,10 +65,10 @@ and_false : (x : Bool) → (x && false) ≡ false
 and_false true = refl
 and_false false = refl
 
-no_bit : (n k : ℕ) → n ≡ 0 → is_bit n k ≡ false
+pub no_bit : (n k : ℕ) → n ≡ 0 → is_bit n k ≡ false
 no_bit n k e = ap (λ (m : ℕ). is_bit m k) e ∙ ap (λ (m : ℕ). m % 2 == 1) (zero-div (2 ^ k))
 
-not_enabled : (c : Cell) (slot : Slot) (tool : ℕ) → c.want ≡ 0 → is_enabled c slot tool ≡ false
+pub not_enabled : (c : Cell) (slot : Slot) (tool : ℕ) → c.want ≡ 0 → is_enabled c slot tool ≡ false
 not_enabled c slot tool e = ap (λ (b : Bool). b && is_bit c.live (place slot tool)) (no_bit c.want (place slot tool) e)
 
 not_heard : (b : Board) (kind : Kind) (tool : ℕ) → IsBare b → is_heard b kind tool ≡ false
@@ -86,7 +86,7 @@ heard_none b i (h ∷ hs) bare =
 -- ---- nor while nothing but disables is added
 
 module _ (first : Board) (before more : List Mark) (bare : IsBare (after first before)) (quiet : puts more ≡ []) where
-  bare_at : (at : ℕ) → length before ≤ at → IsBare (after first (take at (before ++ more)))
+  pub bare_at : (at : ℕ) → length before ≤ at → IsBare (after first (take at (before ++ more)))
   bare_at at low =
       let n : ℕ = at - length before in
       let here : length before + n ≡ at = omega arith in
@@ -103,7 +103,7 @@ module _ (first : Board) (before more : List Mark) (bare : IsBare (after first b
       let f : records_of p first (before ++ more) (i + 1) (step p s).after positions ≡ [] = none_of p (i + 1) (step p s).after at positions high here between.1 in
       rw (e, f) refl
 
-quiet_more : (before more later : List Mark) → later ≡ before ++ more → puts later ≡ puts before → puts more ≡ []
+pub quiet_more : (before more later : List Mark) → later ≡ before ++ more → puts later ≡ puts before → puts more ≡ []
 quiet_more before more later is e =
     append_cancel_left (puts before) (puts more) [] (sym (puts_append before more) ∙ ap puts (sym is) ∙ e ∙ sym (append-nil (puts before)))
 

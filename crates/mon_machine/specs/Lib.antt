@@ -9,3 +9,5 @@ pub mod Serial
 pub mod Bare
 pub mod Laws
 pub mod LastLines
+pub mod Advances
+pub mod AdvanceLaws

@@ -1,3 +1,4 @@
+ghost use Rattle.mon_machine.specs.AdvanceLaws.{StepsAddUp, StayingAddsUp, PausesAddUp, RunsJoin, RunsContinue, EventsStandAtSteps, LoadsStandAtSteps};
 ghost use Rattle.mon_machine.specs.LastLines.{LastLinesAreForEvents};
 ghost use Rattle.mon_machine.specs.Laws.{DepthsAsRecorded, GoesOnByOne, HeardByWants, LimitsAreBounds, LineMarks, NeverStuck, ProperEvents, RunsAddUp};
 
@@ -48,4 +49,28 @@ pub fn proper_events()
 /// Where LINE is enabled for one tool at the marked locations alone, that tool hears every LINE event of such a thread.
 pub fn heard_by_wants()
     ensures { HeardByWants }
+{}
+
+/// An advance is made of its steps, and of the polls before them.
+pub fn advances_add_up()
+    ensures steps { StepsAddUp }
+    ensures stays { StayingAddsUp }
+    ensures pauses { PausesAddUp }
+{}
+
+/// Two advances, between which a thread left and entered, are one.
+pub fn advances_join()
+    ensures { RunsJoin }
+{}
+
+/// What an advance does to a handle is among what any calls do: its disables are the answers of its steps.
+pub fn advances_continue()
+    ensures { RunsContinue }
+{}
+
+/// The events of an instruction are of its location, or enabled by the global word; without an instruction all are of the
+/// second kind. The loads of locations in an advance are one for each instruction, of its location.
+pub fn advances_stand_at_steps()
+    ensures events { EventsStandAtSteps }
+    ensures loads { LoadsStandAtSteps }
 {}
