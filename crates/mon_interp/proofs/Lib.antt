@@ -1,8 +1,7 @@
 pub mod Answered
-pub mod Asking
 pub mod Builtins
+pub mod Events
 pub mod Globals
-pub mod Heard
 pub mod InPlace
 pub mod Instructing
 pub mod Iterated
@@ -10,7 +9,6 @@ pub mod Matching
 pub mod Operands
 pub mod Performing
 pub mod Results
-pub mod Runs
 pub mod Settling
 pub mod Standing
 pub mod Steps

@@ -1,5 +1,3 @@
-pub mod Asked
-pub mod Heard
 pub mod InPlace
 pub mod Machines
 pub mod Moving

@@ -8,7 +8,6 @@ mod done;
 mod events;
 mod global;
 mod handling;
-mod hear;
 mod iterate;
 mod jump;
 mod load;

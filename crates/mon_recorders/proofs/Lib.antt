@@ -1,3 +1,4 @@
+pub mod Cutting
 pub mod Folds
 pub mod Spans
 pub mod Examples
