@@ -1,13 +1,16 @@
 pub mod Answered
 pub mod Builtins
-pub mod Events
+pub mod Listing
 pub mod Globals
+pub mod Going
+pub mod Hearing
 pub mod InPlace
 pub mod Instructing
 pub mod Iterated
 pub mod Matching
 pub mod Operands
 pub mod Performing
+pub mod Placed
 pub mod Results
 pub mod Settling
 pub mod Standing

@@ -54,3 +54,8 @@ pub record RanUnwinding (p : Parts) (e : Exc) (a b : Told) (old new : Progress) 
   pub steps : new.steps ≡ old.steps + 1
   pub heard : UnwindingHeard old.steps (unwinds p old.state.frames e old.state.frames.calls).events a b old.records new.records
   pub loads : b.tally.loads ≡ a.tally.loads ++ loads 0 (after a.first a.seen).global (unwinds p old.state.frames e old.state.frames.calls).events
+
+-- a poll was made where one is due
+abbrev pub PolledDue : Bool → Bool → Told → Told → Type 0
+PolledDue true answer a b = Polls a answer b
+PolledDue false answer a b = (answer ≡ false) × (b ≡ a)

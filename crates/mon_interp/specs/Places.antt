@@ -1,5 +1,5 @@
 -- Where an instruction stands, and what is known of it before.
-use Rattle.std.specs.Prelude.{◌≡◌, ℕ, Unit, Option, Some, None, option_map, [], ◌⊎◌}
+use Rattle.std.specs.Prelude.{◌≡◌, ℕ, Option, Some, None, option_map, [], ◌⊎◌}
 use Rattle.mon_code.specs.Programs.{Parts}
 use Rattle.mon_events.specs.declared.event.Event.{Event}
 use Rattle.mon_events.specs.declared.op.Op.{Op}

@@ -1,8 +1,10 @@
 //! The interpreter's steps.
 
-ghost use Rattle.std.specs.Prelude.{◌≡◌, ◌++◌, OnOk};
+ghost use Rattle.std.specs.Prelude.{◌≡◌, ◌++◌, IsTrue, OnOk};
+ghost use Rattle.mon_words.specs.Told.{Owns};
 ghost use Rattle.mon_machine.specs.Run as run;
 ghost use Rattle.mon_machine.specs.declared.mode.Mode.TheVariants.{Run as Running};
+ghost use Rattle.mon_interp.specs.Machines.{PolledDue};
 ghost use Rattle.mon_interp.specs.Moving.{texts};
 
 use crate::done::Done;
@@ -61,6 +63,19 @@ fn turn(place: &mut Mode, mode: Mode)
     if !matches!(mode, Mode::Run) {
         *place = mode;
     }
+}
+
+// Polls where a thread may be stopped; whether it is asked to.
+fn poll_due<H: Handle>(handle: &mut H, is_safe: bool) -> bool
+    requires attached { IsTrue (H.told handle.old).attached }
+    requires owns { Owns (H.told handle.old) }
+    ensures polled { PolledDue is_safe result (H.told handle.old) (H.told handle.new) }
+    ensures rest { H.rest handle.new ≡ H.rest handle.old }
+{
+    if !is_safe {
+        return false;
+    }
+    handle.poll()
 }
 
 impl Machine {
@@ -264,6 +279,34 @@ impl Machine {
         }
     }
 
+    /// One instruction of a code, behind the poll that is due before it; false, where the thread is asked to stop.
+    fn poll_and_step<H: Handle>(
+        &mut self,
+        program: &Program,
+        code: &Code,
+        handle: &mut H,
+        place: Place,
+        location: Location,
+    ) -> Result<bool, AllocError>
+        requires attached { IsTrue (H.told handle.old).attached }
+        requires owns { Owns (H.told handle.old) }
+        requires bases { map base_in (H.told handle.old).first.cells ≡ program.now.bases }
+        requires within { place.location < length (H.told handle.old).first.cells }
+        requires counted { self.old.steps < 2 ^ 63 }
+        requires runs { self.old.mode ≡ Run }
+        requires stands { StandsHere program.now code.now location place (state_of self.old) }
+        ensures step { IfOk result (λ done. StepOrStop done program.now (H.told handle.old) (H.told handle.new) (progress_of self.old) (progress_of self.new)) }
+        ensures counted { (self.old.steps ≤ self.new.steps) × (self.new.steps ≤ self.old.steps + 1) }
+        ensures stays { Stays (H.told handle.old) (H.told handle.new) }
+        ensures rest { H.rest handle.new ≡ H.rest handle.old }
+    {
+        if poll_due(handle, location.is_safe) {
+            return Ok(false);
+        }
+        self.load_step(program, code, handle, place, location)?;
+        Ok(true)
+    }
+
     /// One instruction, whatever stands at the location of the innermost frame; false, where the thread is asked to stop
     /// before it.
     fn run_step<H: Handle>(
@@ -286,25 +329,28 @@ impl Machine {
             return Ok(true);
         }
         let frame = self.frames.top();
-        let (number, at) = (frame.code, frame.index);
-        let Some(code) = program.code(number) else {
-            self.get_stuck();
-            return Ok(true);
-        };
-        let Some(location) = code.locations.get(at as usize) else {
-            self.get_stuck();
-            return Ok(true);
-        };
-        let place = Place {
-            code: number,
-            index: at,
-            location: code.first + at,
-        };
-        if location.is_safe && handle.poll() {
-            return Ok(false);
+        let number = frame.code;
+        let at = frame.index;
+        match program.code(number) {
+            None => {
+                self.get_stuck();
+                Ok(true)
+            }
+            Some(code) => match code.locations.get(at as usize) {
+                None => {
+                    self.get_stuck();
+                    Ok(true)
+                }
+                Some(location) => {
+                    let place = Place {
+                        code: number,
+                        index: at,
+                        location: code.first + at,
+                    };
+                    self.poll_and_step(program, code, handle, place, *location)
+                }
+            },
         }
-        self.load_step(program, code, handle, place, *location)?;
-        Ok(true)
     }
 
     /// One step of the search for a handler of an exception.
@@ -316,7 +362,7 @@ impl Machine {
     ) -> Result<(), AllocError>
         requires attached { IsTrue (H.told handle.old).attached }
         requires owns { Owns (H.told handle.old) }
-        requires { self.old.steps < 2 ^ 63 }
+        requires counted { self.old.steps < 2 ^ 63 }
         ensures step { OnOk result (RanUnwinding program.now exc (H.told handle.old) (H.told handle.new) (progress_of self.old) (progress_of self.new)) }
         ensures counted { (self.old.steps ≤ self.new.steps) × (self.new.steps ≤ self.old.steps + 1) }
         ensures grows { Grows (H.told handle.old) (H.told handle.new) [] }

@@ -108,7 +108,7 @@ fn place_of(frame: &Frame) -> Place
 }
 
 // An exception goes on in the frame that made the call, or ends the thread where there is none.
-#[tactic(auto, using(crate::proofs::Events::exception_at))]
+#[tactic(auto, using(crate::proofs::Listing::exception_at))]
 fn go_out(
     alloc: Global,
     program: &Program,

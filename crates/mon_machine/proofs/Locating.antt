@@ -69,7 +69,7 @@ module _ (p : Parts) (location : ℕ) (f : Frame) where
   raise_at Ending.Misses = tt
 
   -- of an instruction
-  instruction_at : (op : Op) (n : ℕ) (line : Option ℕ) (m : Move) → AreAt location (instruction_events p op n location line f m)
+  pub instruction_at : (op : Op) (n : ℕ) (line : Option ℕ) (m : Move) → AreAt location (instruction_events p op n location line f m)
   instruction_at op n line m =
       let main = slot_events (local_event p op n f m) location f in
       let ancillary = ancillary_events m.ancillary (of_call p n f.stack) location f in
