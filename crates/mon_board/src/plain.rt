@@ -45,6 +45,8 @@ pub struct PlainBoard {
     ghost counts_are: { length chair.me.0.counts ≡ threads },
     ghost based: { map base_in (standing chair.me.0).cells ≡ map base_in chair.me.0.first.cells },
     ghost six: { length (standing chair.me.0).callbacks ≡ 6 },
+    // nobody asks for a stop
+    ghost unasked: { chair.me.0.tally.polled ≡ 0 },
 }
 
 impl PlainBoard {

@@ -56,7 +56,7 @@ pub all_append : {X : Type 0} (P : X → Type 0) (xs ys : List X) → AllByRecur
 all_append P [] ys a b = b
 all_append P (x ∷ xs) ys a b = (a.0, all_append P xs ys a.1 b)
 
-bit_is : (n k r : ℕ) → bit_at n k ≡ r → is_bit n k ≡ (r == 1)
+pub bit_is : (n k r : ℕ) → bit_at n k ≡ r → is_bit n k ≡ (r == 1)
 bit_is n k r e = ap (λ (b : ℕ). b == 1) e
 
 both : (x y : Bool) → y ≡ true → (x && y) ≡ x
@@ -82,7 +82,7 @@ enabled_marked b tool number l w m t h =
     ∙ ap (λ (n : ℕ). is_bit n t) want ∙ pow_bit tool t
 
 -- a board that wants LINE for the tool alone hears an event as the tool does
-heard_kind : (p : Parts) (tool : ℕ) (b : Board) (h : Happening) → HasLineWants p tool b → MarksLine p h → (t : ℕ) → t < 6 → is_heard b h.kind t ≡ wants_line tool h.kind t
+pub heard_kind : (p : Parts) (tool : ℕ) (b : Board) (h : Happening) → HasLineWants p tool b → MarksLine p h → (t : ℕ) → t < 6 → is_heard b h.kind t ≡ wants_line tool h.kind t
 heard_kind p tool b h wants marks t within = pick (is_line_kind h.kind) refl
   where
     other : (kind : Kind) → is_line_kind kind ≡ false → is_heard b kind t ≡ wants_line tool kind t

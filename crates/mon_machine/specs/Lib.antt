@@ -11,3 +11,4 @@ pub mod Laws
 pub mod LastLines
 pub mod Advances
 pub mod AdvanceLaws
+pub mod AdvanceExamples

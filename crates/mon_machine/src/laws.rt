@@ -1,4 +1,5 @@
-ghost use Rattle.mon_machine.specs.AdvanceLaws.{StepsAddUp, StayingAddsUp, PausesAddUp, RunsJoin, RunsContinue, EventsStandAtSteps, LoadsStandAtSteps};
+ghost use Rattle.mon_machine.specs.AdvanceExamples.{WorkedAdvance};
+ghost use Rattle.mon_machine.specs.AdvanceLaws.{StepsAddUp, StayingAddsUp, PausesAddUp, RunsJoin, RunsContinue, EventsStandAtSteps, LoadsStandAtSteps, BareRuns, LinesAreKept};
 ghost use Rattle.mon_machine.specs.LastLines.{LastLinesAreForEvents};
 ghost use Rattle.mon_machine.specs.Laws.{DepthsAsRecorded, GoesOnByOne, HeardByWants, LimitsAreBounds, LineMarks, NeverStuck, ProperEvents, RunsAddUp};
 
@@ -73,4 +74,20 @@ pub fn advances_continue()
 pub fn advances_stand_at_steps()
     ensures events { EventsStandAtSteps }
     ensures loads { LoadsStandAtSteps }
+{}
+
+/// Where nothing is wanted nothing is recorded, and a thread that is not asked to stop is where the plain run is.
+pub fn bare_runs()
+    ensures { BareRuns }
+{}
+
+/// Where one tool keeps LINE at the marked locations, its records of a thread that runs alone are its LINE events, and
+/// nothing is disabled.
+pub fn lines_are_kept()
+    ensures { LinesAreKept }
+{}
+
+/// Two lines of a function under a callback that answers DISABLE: polls, loads, records and disables of the whole run.
+pub fn worked_advance()
+    ensures { WorkedAdvance }
 {}

@@ -1,6 +1,7 @@
 -- The serial run, by what its thread did.
 use Rattle.std.proofs.Common.{◌≡◌, ◌⊎◌, ℕ, zero, suc, ◌+◌, ◌-◌, ◌*◌, ◌/◌, ◌%◌, ◌<◌, ◌≤◌, le_refl, Bool, true, false, cond, List, [], ◌∷◌, ◌++◌, length, map, drop, get_or, refl, sym, ap, ◌∙◌, arith, subst, append_assoc, append-nil, length-append, inl, inr}
-use Rattle.std.specs.Prelude.{Option, Some, None, slice_get, slice_index, if◌then◌else◌, ◌^◌, ◌==◌}
+use Rattle.std.proofs.lemmas.Bool.Decides.{nat_tests}
+use Rattle.std.specs.Prelude.{nat_lt, Option, Some, None, slice_get, slice_index, if◌then◌else◌, ◌^◌, ◌==◌}
 use Rattle.std.proofs.Common.{drop-cons}
 use Rattle.std.proofs.lemmas.List.{drop_all}
 use Rattle.std.proofs.Math.Nat.{pow-le-pow_right}
@@ -10,7 +11,9 @@ use Rattle.mon_code.specs.declared.program.Location.{Location}
 use Rattle.mon_code.specs.Programs.{Parts}
 use Rattle.mon_code.specs.Checked.{IsChecked, AllCodes}
 use Rattle.mon_code.proofs.Codes.{codes_end}
-use Rattle.mon_words.specs.Words.{cell_of, word_of, normal, need, Allowed}
+use Rattle.mon_events.specs.declared.event.Event.{Event}
+use Rattle.mon_words.specs.Told.{Told}
+use Rattle.mon_words.specs.Words.{is_called, is_once, cell_of, word_of, normal, need, Allowed}
 use Rattle.mon_words.specs.History.{base_in, offs}
 use Rattle.mon_words.specs.Standing.{board_of, IsFirst}
 use Rattle.mon_words.specs.declared.history.Cell.{Cell}
@@ -23,53 +26,56 @@ use Rattle.mon_words.proofs.Clearing.{need_most}
 use Rattle.mon_board.specs.PlainViews.{other_marks}
 use Rattle.mon_recorders.specs.declared.record.Record.{Record}
 use Rattle.mon_machine.specs.State.{State, start, goes}
-use Rattle.mon_machine.specs.Run.{Progress, Ran, Goes, after_steps, steps_done, outcome_of, records_of, printed_by}
+use Rattle.mon_machine.specs.Run.{after_steps, steps_done, outcome_of, printed_by}
+use Rattle.mon_machine.specs.Advances.{Progress, nothing_done, Ran, Advanced, is_asked}
+use Rattle.mon_machine.specs.AdvanceLaws.{KeepsLines, KeptLines}
+use Rattle.mon_interp.specs.Threads.{reported}
 use Rattle.mon_machine.specs.Serial.{line_records, HasLineWants, of_locations, of_codes}
 use Rattle.mon_machine.specs.Laws.{IsCall}
-use Rattle.mon_machine.proofs.Calls.{heard_by_wants}
+use Rattle.mon_machine.proofs.KeptLines.{lines_are_kept}
 use Rattle.mon_machine.proofs.Runs.{steps_done_goes, steps_done_all, after_steps_all}
 use Rattle.mon_machine.proofs.Heard.{line_records_done}
 use Rattle.mon_machine.proofs.Printed.{printed_done}
 use Rattle.mon_machine.proofs.Numbers.{wants_of_words}
 use Rattle.mon_values.specs.declared.value.Value.{Int}
-use Rattle.mon_interp.specs.declared.thread.Stop.{Stop}
-use Rattle.mon_interp.specs.declared.thread.Stop.TheVariants.{Spent, Ended}
 use Rattle.mon_main.specs.declared.plan.Plan.{Plan}
 use Rattle.mon_main.specs.Plans.{parameters_of}
-use Rattle.mon_main.specs.Serial.{serial_from, serial_in, serial_of, line_word, words_of_run}
+use Rattle.mon_main.specs.Serial.{report_of, serial_from, serial_in, serial_of, callback_word, line_word, words_of_run}
 
--- a thread that did what it could of so many steps, over words that want LINE for one tool, did the serial run
-pub serial_ran : (p : Parts) (k : ℕ) (c : Code) (args : List Value) (tool : ℕ) (b : Board) (old new : Progress) (steps : ℕ) → IsCall p k c args → HasLineWants p tool b → old ≡ record { state = start c k args; printed = []; records = []; steps = 0 }
-    → Ran p b [] [] old new → (goes new.state.mode ≡ false) ⊎ (new.steps ≡ old.steps + steps) → new.steps ≤ old.steps + steps
-    → record { printed = new.printed; records = new.records; steps = new.steps; outcome = outcome_of new.state.mode } ≡ serial_from p tool steps (start c k args)
-serial_ran p k c args tool b old new steps call wants begins r ends few =
+-- a history that has no marks but those of a thread
+pub only_own : (t : ℕ) (ms : List Mark) → other_marks t ms ≡ [] → offs t ms ≡ ms
+only_own t [] e = refl
+only_own t (Put stops b ∷ ms) e = absurd (cc)
+only_own t (Off u l k ∷ ms) e = pick (u == t) e (only_own t ms)
+  where
+    pick : (x : Bool) → cond x (other_marks t ms) (Off u l k ∷ other_marks t ms) ≡ [] → (other_marks t ms ≡ [] → offs t ms ≡ ms) → cond x (Off u l k ∷ offs t ms) (offs t ms) ≡ Off u l k ∷ ms
+    pick true h rest = ap (λ (z : List Mark). Off u l k ∷ z) (rest h)
+    pick false h rest = absurd (cc)
+
+-- a thread that advanced alone by so many steps, over words by which one tool keeps LINE, and was not asked to stop did the
+-- serial run
+pub serial_ran : (p : Parts) (k : ℕ) (c : Code) (args : List Value) (tool : ℕ) (a b : Told) (old new : Progress) (steps : ℕ) → IsCall p k c args → KeepsLines p tool a.first → a.seen ≡ [] → offs a.number b.seen ≡ b.seen
+    → old ≡ nothing_done (start c k args) → Advanced p steps a b old new → is_asked a b ≡ false → reported new ≡ report_of (serial_from p tool steps (start c k args))
+serial_ran p k c args tool a b old new steps call keeps unseen own begins d unasked =
     let s : State = start c k args in
-    let n : ℕ = length r.positions in
-    let at : old.state ≡ s = ap (λ (x : Progress). x.state) begins in
-    let none : old.records ≡ [] = ap (λ (x : Progress). x.records) begins in
-    let first : old.steps ≡ 0 = ap (λ (x : Progress). x.steps) begins in
-    let on : Goes p s n = subst (λ (x : State). Goes p x n) at r.goes in
-    let there : new.state ≡ after_steps p s n = r.state ∙ ap (λ (x : State). after_steps p x n) at in
-    let count : new.steps ≡ n = omega (arith, r.steps, first) in
-    let done : (steps_done p s steps ≡ n) × (after_steps p s steps ≡ after_steps p s n) = elim ends [
-      | inl stops ↦
-          let stands : goes (after_steps p s n).mode ≡ false = subst (λ (x : State). goes x.mode ≡ false) there stops in
-          let low : n ≤ steps = omega (arith, few, count, first) in
-          (steps_done_all p s n steps on stands low, after_steps_all p s n steps stands low)
-      | inr all ↦
-          let same : steps ≡ n = omega (arith, all, count, first) in
-          (ap (λ m. steps_done p s m) same ∙ steps_done_goes p s n on, ap (λ m. after_steps p s m) same)
-    ] in
-    let heard : new.records ≡ line_records p tool 0 s n
-    = r.records ∙ ap (λ (l : List Record). l ++ records_of p b [] old.steps old.state r.positions) none
-    ∙ ap (λ m. records_of p b [] m old.state r.positions) first ∙ ap (λ (x : State). records_of p b [] 0 x r.positions) at
-    ∙ (heard_by_wants p k c args call tool b wants).whole_run 0 r.positions in
-    let records : new.records ≡ line_records p tool 0 s steps = heard ∙ ap (λ m. line_records p tool 0 s m) (sym done.0) ∙ line_records_done p tool 0 s steps in
-    let printed : new.printed ≡ printed_by p s steps
-    = r.printed ∙ ap (λ (x : Progress). x.printed ++ printed_by p x.state n) begins
-    ∙ ap (λ m. printed_by p s m) (sym done.0) ∙ printed_done p s steps in
-    let outcome : outcome_of new.state.mode ≡ outcome_of (after_steps p s steps).mode = ap (λ (x : State). outcome_of x.mode) (there ∙ sym done.1) in
-    λ i. record { printed = printed i; records = records i; steps = (count ∙ sym done.0) i; outcome = outcome i }
+    let n : ℕ = length d.at in
+    let r : Ran p d.at a b (nothing_done s) new = subst (λ (x : Progress). Ran p d.at a b x new) begins d.ran in
+    let kept : KeptLines p tool n b s new = lines_are_kept p k c args call tool d.at a b old new keeps unseen own begins d.ran in
+    let done : (steps_done p s steps ≡ n) × (after_steps p s steps ≡ after_steps p s n) = pick s r d.within (goes new.state.mode) refl (d.spent unasked) in
+    let records : new.records ≡ line_records p tool 0 s steps = kept.records ∙ (ap (λ m. line_records p tool 0 s m) (sym done.0) ∙ line_records_done p tool 0 s steps) in
+    let printed : new.printed ≡ printed_by p s steps = r.printed ∙ (ap (λ m. printed_by p s m) (sym done.0) ∙ printed_done p s steps) in
+    let count : new.steps ≡ steps_done p s steps = omega (arith, r.steps, done.0) in
+    let outcome : outcome_of new.state.mode ≡ outcome_of (after_steps p s steps).mode = ap (λ (x : State). outcome_of x.mode) (r.state ∙ sym done.1) in
+    λ i. record { printed = printed i; records = records i; disables = kept.disables i; steps = count i; outcome = outcome i }
+  where
+    pick : (s : State) → Ran p d.at a b (nothing_done s) new → length d.at ≤ steps → (on : Bool) → goes new.state.mode ≡ on → (goes new.state.mode ≡ true → length d.at ≡ steps)
+        → (steps_done p s steps ≡ length d.at) × (after_steps p s steps ≡ after_steps p s (length d.at))
+    pick s r within false e all =
+        let stands : goes (after_steps p s (length d.at)).mode ≡ false = ap (λ (x : State). goes x.mode) (sym r.state) ∙ e in
+        (steps_done_all p s (length d.at) steps r.goes stands within, after_steps_all p s (length d.at) steps stands within)
+    pick s r within true e all =
+        let same : steps ≡ length d.at = sym (all e) in
+        (ap (λ m. steps_done p s m) same ∙ steps_done_goes p s (length d.at) r.goes, ap (λ m. after_steps p s m) same)
 
 -- the parts of a word whose live bits are all 1
 word_parts : (place base want : ℕ) → place < 256 → base < 256 → want < 16777216 → let n = place + base * 256 + want * 65536 + 16777215 * 1099511627776 in (n / 65536 % 16777216 ≡ want) × (n / 1099511627776 ≡ 16777215) × (n / 256 % 256 ≡ base)
@@ -116,6 +122,21 @@ module _ (bases : List ℕ) (tool : ℕ) (small : (n : ℕ) → slice_index base
       ∙ ap (λ (r : List ℕ). map base_in (map cell_of (of_locations (line_word bases tool) from c.locations)) ++ r) (of_all (from + length c.locations) cs h.2)
       ∙ of_some from c.locations end
 
+-- and keep it
+pub first_words-keep : (p : Parts) (tool : ℕ) → IsChecked p → tool < 6 → ((n : ℕ) → slice_index p.bases n < 256) → KeepsLines p tool (board_of (words_of_run p tool))
+first_words-keep p tool checked within small =
+    let word : get_or (board_of (words_of_run p tool)).callbacks tool 0 ≡ 16384 = of_tool tool within in
+    record { wants = first_words-want p tool checked within small; global = refl; called = ap (λ w. is_called w Event.Line) word; kept = ap (λ w. is_once w Event.Line) word }
+  where
+    of_tool : (t : ℕ) → t < 6 → get_or (map (callback_word t) (0 ∷ 1 ∷ 2 ∷ 3 ∷ 4 ∷ 5 ∷ [])) t 0 ≡ 16384
+    of_tool zero h = refl
+    of_tool (suc zero) h = refl
+    of_tool (suc (suc zero)) h = refl
+    of_tool (suc (suc (suc zero))) h = refl
+    of_tool (suc (suc (suc (suc zero)))) h = refl
+    of_tool (suc (suc (suc (suc (suc zero))))) h = refl
+    of_tool (suc (suc (suc (suc (suc (suc t)))))) h = absurd (omega (arith, h))
+
 -- and have its base opcodes
 pub first_words-bases : (p : Parts) (tool : ℕ) → IsChecked p → tool < 6 → ((n : ℕ) → slice_index p.bases n < 256) → map base_in (board_of (words_of_run p tool)).cells ≡ p.bases
 first_words-bases p tool checked within small = of_all p.bases tool small within 0 p.codes checked.codes
@@ -151,16 +172,6 @@ first_words-first p tool = record {
       subst (λ (i : ℕ). Allowed (cell_of (get_or (words_of_run p tool) i 0)) (get_or (words_of_run p tool) i 0 % 256)) (sym behind) (each_code p.bases tool 0 p.codes l (omega arith));
 }
 
--- a history without disables of a thread and without other marks
-disable_or_other : (b : Bool) (m : Mark) (xs ys : List Mark) → cond b (m ∷ xs) xs ≡ [] → cond b ys (m ∷ ys) ≡ [] → {A : Type 0} → A
-disable_or_other true m xs ys e f = absurd (cc)
-disable_or_other false m xs ys e f = absurd (cc)
-
-pub no_marks : (t : ℕ) (ms : List Mark) → offs t ms ≡ [] → other_marks t ms ≡ [] → ms ≡ []
-no_marks t [] e f = refl
-no_marks t (Off u l k ∷ ms) e f = disable_or_other (u == t) (Off u l k) (offs t ms) (other_marks t ms) e f
-no_marks t (Put stops b ∷ ms) e f = absurd (cc)
-
 length_locations : (g : ℕ → Location → ℕ) (from : ℕ) (ls : List Location) → length (of_locations g from ls) ≡ length ls
 length_locations g from [] = refl
 length_locations g from (l ∷ ls) = omega (arith, length_locations g (from + 1) ls)
@@ -192,10 +203,9 @@ pub serial_found : (p : Parts) (plan : Plan) (c : Code) → slice_get p.codes pl
 unfolding serial_of
 serial_found p plan c e = ap (serial_in p plan) e
 
--- where an advance stopped, the thread has ended or did all steps
-pub stops : {P Q : Type 0} (stop : Stop) → (stop ≡ Spent → Q) → (stop ≡ Ended → P) → P ⊎ Q
-stops Spent spent ended = inr (spent refl)
-stops Ended spent ended = inl (ended refl)
+-- where no poll was ever answered by yes, a thread was not asked to stop
+pub unasked : (m n : ℕ) → n ≡ 0 → nat_lt m n ≡ false
+unasked m n e = grind (arith, nat_tests)
 
 -- a plan that fits gives a code as many arguments as it has parameters
 pub fits_parameters : (o : Option Code) (c : Code) (n : ℕ) → o ≡ Some c → parameters_of o ≡ Some n → n ≡ c.parameters

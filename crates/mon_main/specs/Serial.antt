@@ -1,6 +1,8 @@
 -- The serial run of a plan: the plain run of its thread, of which the plan's tool hears the LINE events.
-use Rattle.std.specs.Prelude.{◌≡◌, ℕ, Bool, true, false, List, [], ◌∷◌, map, Option, Some, None, slice_get, slice_index, ◌^◌, if◌then◌else◌}
+use Rattle.std.specs.Prelude.{◌≡◌, ℕ, Bool, true, false, List, [], ◌∷◌, ◌++◌, map, Option, Some, None, slice_get, slice_index, ◌*◌, ◌^◌, ◌==◌, if◌then◌else◌}
 use Rattle.mon_values.specs.declared.value.Value.{Int}
+use Rattle.mon_events.specs.Events.{bit}
+use Rattle.mon_events.specs.declared.event.Event.{Event}
 use Rattle.mon_code.specs.declared.program.Code.{Code}
 use Rattle.mon_code.specs.declared.program.Location.{Location}
 use Rattle.mon_code.specs.Programs.{Parts}
@@ -58,6 +60,14 @@ pub record LimitAtBound (p : Parts) (plan : Plan) : Type 0 where
 abbrev pub line_word : List ℕ → ℕ → ℕ → Location → ℕ
 line_word bases tool number l = normal (word_of (record { place = slice_index bases number; base = slice_index bases number; want = if l.is_marked then 2 ^ tool else 0; live = 16777215 }))
 
--- the words that a run begins with: no global event and no callback, and then those of the locations
+-- the callback word of a tool: the plan's tool keeps LINE, and no other has a callback
+abbrev pub callback_word : ℕ → ℕ → ℕ
+callback_word tool t = if t == tool then 2 ^ (2 * bit Event.Line) else 0
+
+-- the words before those of the locations: no event is wanted by the global word, and the callback words of the tools
+abbrev pub words_before : ℕ → List ℕ
+words_before tool = 0 ∷ map (callback_word tool) (0 ∷ 1 ∷ 2 ∷ 3 ∷ 4 ∷ 5 ∷ [])
+
+-- the words that a run begins with
 abbrev pub words_of_run : Parts → ℕ → List ℕ
-words_of_run p tool = 0 ∷ 0 ∷ 0 ∷ 0 ∷ 0 ∷ 0 ∷ 0 ∷ of_codes (line_word p.bases tool) 0 p.codes
+words_of_run p tool = words_before tool ++ of_codes (line_word p.bases tool) 0 p.codes

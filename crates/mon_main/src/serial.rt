@@ -6,11 +6,12 @@ ghost use Rattle.mon_board.specs.Plain.{first_plain};
 ghost use Rattle.mon_machine.specs.Laws.{AllRun};
 ghost use Rattle.mon_machine.specs.Serial.{of_locations};
 ghost use Rattle.mon_main.specs.Plans.{plan_fits};
-ghost use Rattle.mon_main.specs.Serial.{report_of, serial_of, line_word, words_of_run};
+ghost use Rattle.mon_main.specs.Serial.{report_of, serial_of, callback_word, line_word, words_before, words_of_run};
 
 use crate::plan::Plan;
 use mon_board::PlainBoard;
 use mon_code::{Code, Location, Program};
+use mon_events::Event;
 use mon_interp::Thread;
 use mon_recorders::ThreadReport;
 use mon_values::value::Value;
@@ -36,6 +37,35 @@ fn first_word(bases: &[u8], tool: u8, number: usize, location: &Location) -> u64
     }))
 }
 
+// The callback word of a tool, of which the one given keeps LINE.
+fn callback(tool: u8, other: u8) -> u64
+    ensures { result ≡ callback_word tool other }
+{
+    if other == tool {
+        1 << (2 * Event::Line.number())
+    } else {
+        0
+    }
+}
+
+// The words before those of the locations.
+fn words_ahead(alloc: Global, tool: u8) -> Result<Vec<u64>, AllocError>
+    ensures { IfOk result (λ words. words.items ≡ words_before tool) }
+{
+    Vec::from_slice(
+        alloc,
+        &[
+            0,
+            callback(tool, 0),
+            callback(tool, 1),
+            callback(tool, 2),
+            callback(tool, 3),
+            callback(tool, 4),
+            callback(tool, 5),
+        ],
+    )
+}
+
 // Adds the first words of a code's locations.
 fn push_words(words: &mut Vec<u64>, bases: &[u8], tool: u8, code: &Code) -> Result<(), AllocError>
     requires tool { tool < 6 }
@@ -49,7 +79,7 @@ fn push_words(words: &mut Vec<u64>, bases: &[u8], tool: u8, code: &Code) -> Resu
     Ok(())
 }
 
-// The words that a run begins with, for a tool that listens to LINE everywhere.
+// The words that a run begins with, for a tool that keeps LINE everywhere.
 fn first_words(
     alloc: Global,
     program: &Program,
@@ -61,9 +91,8 @@ fn first_words(
     ensures checked { IsChecked program.now }
     ensures words { IfOk result (λ words. words.items ≡ words_of_run program.now tool) }
 {
-    let locations = program.locations() as usize;
-    let mut words = vec![in alloc; 0; BEFORE_LOCATIONS]?;
-    words.reserve(locations)?;
+    let mut words = words_ahead(alloc, tool)?;
+    words.reserve(program.locations() as usize)?;
     for code in program.codes.as_slice() {
         push_words(&mut words, bases, tool, code)?;
     }

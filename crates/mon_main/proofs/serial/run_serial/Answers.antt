@@ -5,7 +5,8 @@ use Rattle.mon_values.specs.declared.value.Value.{Value, Int}
 use Rattle.mon_code.specs.declared.program.Code.{Code}
 use Rattle.mon_code.specs.Programs.{Parts}
 use Rattle.mon_machine.specs.State.{start, goes}
-use Rattle.mon_machine.specs.Run.{Progress, Ran}
+use Rattle.mon_machine.specs.Advances.{Progress, nothing_done, is_asked}
+use Rattle.mon_machine.specs.AdvanceLaws.{KeepsLines}
 use Rattle.mon_machine.specs.Laws.{IsCall}
 use Rattle.mon_machine.proofs.Fitting.{checked_code}
 use Rattle.mon_words.specs.History.{base_in, offs}
@@ -15,15 +16,14 @@ use Rattle.mon_words.specs.Tallies.{entered_once}
 use Rattle.mon_words.specs.declared.history.Board.{Board}
 use Rattle.mon_words.specs.declared.history.Mark.{Mark}
 use Rattle.mon_board.specs.Plain.{first_plain}
-use Rattle.mon_board.specs.PlainViews.{other_marks}
+use Rattle.mon_board.specs.PlainViews.{plain_told, other_marks}
 use Rattle.mon_board.specs.declared.plain.PlainBoard.{PlainBoard}
 use Rattle.mon_board.specs.declared.plain_rest.PlainRest.{PlainRest}
 use Rattle.mon_board.specs.declared.plain_view.PlainView.{PlainView}
 use Rattle.mon_interp.specs.Threads.{ThreadView}
-use Rattle.mon_interp.specs.declared.thread.Stop.{Stop}
 use Rattle.mon_main.specs.declared.plan.Plan.{Plan}
 use Rattle.mon_main.specs.Serial.{report_of, words_of_run}
-use Rattle.mon_main.proofs.Serials.{serial_ran, serial_found, stops, fits_parameters, first_words-want, first_words-bases, no_marks}
+use Rattle.mon_main.proofs.Serials.{serial_ran, serial_found, unasked, fits_parameters, first_words-keep, first_words-bases, only_own}
 use Rattle.mon_main.proofs.serial.run_serial.Goals as goal
 
 -- the arguments as values
@@ -70,22 +70,20 @@ returns-in-Ok-advance c =
     let call : IsCall p plan.code code (map Int plan.args) = record { checked = c.first_board.ensures.checked; runs = c.requires.runs; found = found; count = length-map plan.args Int ∙ count } in
     let old : Progress = c.in_ok-thread.thread.progress in
     let new : Progress = c.advance.new.self.progress in
-    let begins : old ≡ record { state = start code plan.code (map Int plan.args); printed = []; records = []; steps = 0 }
+    let begins : old ≡ nothing_done (start code plan.code (map Int plan.args))
     = ap (λ (t : ThreadView). t.progress) c.in_ok-thread.ensures
-    ∙ ap (λ (l : List Value). let x : Progress = record { state = start code plan.code l; printed = []; records = []; steps = 0 } in x) (arguments_of _ _ _ _ c.as_slice-2.ensures c.in_ok-args.ensures c.as_slice.ensures) in
-    let ends : (goes new.state.mode ≡ false) ⊎ (new.steps ≡ old.steps + plan.steps)
-    = stops c.in-Ok-advance.field-0 (λ e. (c.in-Ok-advance.ensures.spent (ap (λ (s : Stop). Ok s) e)).1) (λ e. c.in-Ok-advance.ensures.ended (ap (λ (s : Stop). Ok s) e)) in
+    ∙ ap (λ (l : List Value). nothing_done (start code plan.code l)) (arguments_of _ _ _ _ c.as_slice-2.ensures c.in_ok-args.ensures c.as_slice.ensures) in
     let t : ℕ = c.try_enter.new.self.thread in
     let v : PlainView = c.try_enter.new.self.board.now.chair.me.0 in
     let w : PlainView = c.advance.new.handle.board.now.chair.me.0 in
+    let a : Told = plain_told t v in
+    let b : Told = plain_told c.advance.new.handle.thread w in
     let same = c.try_enter.ensures.view in
     let board : v.first ≡ board_of (words_of_run p plan.tool) = first p plan.tool v c.in_ok-board.board c.handle-handle.result.board.now c.in_ok-board.ensures.view c.handle-handle.ensures.view same in
     let before : v.seen ≡ [] = unseen p plan.tool v c.in_ok-board.board c.handle-handle.result.board.now c.in_ok-board.ensures.view c.handle-handle.ensures.view same in
-    let number : c.advance.new.handle.thread ≡ t = ap (λ (a : Told). a.number) c.advance.ensures.grows.rest in
-    let own : offs t w.seen ≡ [] = ap (λ n. offs n w.seen) (sym number) ∙ c.advance.ensures.grows.own ∙ append-nil (offs t v.seen) ∙ ap (offs t) before in
-    let others : other_marks t w.seen ≡ [] = ap (λ n. other_marks n w.seen) (sym number) ∙ ap (λ (r : PlainRest). r.marks) c.advance.ensures.rest ∙ ap (other_marks t) before in
-    let after : w.seen ≡ [] = no_marks t w.seen own others in
-    let run : Ran p (board_of (words_of_run p plan.tool)) [] [] old new = subst (λ (z : Board × List Mark × List Mark). Ran p z.0 z.1 z.2 old new) (λ i. (board i, before i, after i)) c.in-Ok-advance.ensures.run in
-    let wants = first_words-want p plan.tool c.first_board.ensures.checked c.requires.fits.tool small in
-    let ran = serial_ran p plan.code code (map Int plan.args) plan.tool (board_of (words_of_run p plan.tool)) old new plan.steps call wants begins run ends c.in-Ok-advance.ensures.counted.1 ∙ sym (serial_found p plan code found) in
-    c.finish.ensures ∙ ap report_of ran
+    let number : c.advance.new.handle.thread ≡ t = ap (λ (x : Told). x.number) c.advance.ensures.stays.rest in
+    let others : other_marks t w.seen ≡ [] = ap (λ n. other_marks n w.seen) (sym number) ∙ (ap (λ (r : PlainRest). r.marks) c.advance.ensures.rest ∙ ap (other_marks t) before) in
+    let keeps : KeepsLines p plan.tool v.first = subst (λ (z : Board). KeepsLines p plan.tool z) (sym board) (first_words-keep p plan.tool c.first_board.ensures.checked c.requires.fits.tool small) in
+    let no : is_asked a b ≡ false = unasked v.tally.polled w.tally.polled c.advance.new.handle.board.now.unasked in
+    let ran = serial_ran p plan.code code (map Int plan.args) plan.tool a b old new plan.steps call keeps before (only_own t w.seen others) begins c.in-Ok-advance.ensures.run no in
+    c.finish.ensures ∙ (ran ∙ ap report_of (sym (serial_found p plan code found)))
