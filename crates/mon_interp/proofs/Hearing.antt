@@ -75,19 +75,19 @@ not_enabled word g t Global e q h n = absurd (cc (n))
 
 any_quiet : (word g t : ℕ) (es : List Happening) → Quiet (cell_of word) → t < 6 → any_enabled word g t (globals es) ≡ any_enabled word g t es
 any_quiet word g t [] q h = refl
-any_quiet word g t (e ∷ es) q h = split (is_global_kind e.kind) refl
+any_quiet word g t (e ∷ es) q h = split (any_quiet word g t es q h) (is_global_kind e.kind) refl
   where
-    split : (x : Bool) → is_global_kind e.kind ≡ x → any_enabled word g t (cond x (e ∷ globals es) (globals es)) ≡ any_enabled word g t (e ∷ es)
-    split true n = ap (λ z. is_enabled_by (λ l. cell_of word) g e.kind t e.event || z) (any_quiet word g t es q h)
-    split false n = any_quiet word g t es q h ∙ ap (λ z. z || any_enabled word g t es) (sym (not_enabled word g t e.kind e.event q h n))
+    split : any_enabled word g t (globals es) ≡ any_enabled word g t es → (x : Bool) → is_global_kind e.kind ≡ x → any_enabled word g t (cond x (e ∷ globals es) (globals es)) ≡ any_enabled word g t (e ∷ es)
+    split rest true n = ap (λ z. is_enabled_by (λ l. cell_of word) g e.kind t e.event || z) rest
+    split rest false n = rest ∙ ap (λ z. z || any_enabled word g t es) (sym (not_enabled word g t e.kind e.event q h n))
 
 any_global_quiet : (es : List Happening) → any_global (globals es) ≡ any_global es
 any_global_quiet [] = refl
-any_global_quiet (e ∷ es) = split (is_global_kind e.kind) refl
+any_global_quiet (e ∷ es) = split (any_global_quiet es) (is_global_kind e.kind) refl
   where
-    split : (x : Bool) → is_global_kind e.kind ≡ x → any_global (cond x (e ∷ globals es) (globals es)) ≡ any_global (e ∷ es)
-    split true n = ap (λ z. is_global_kind e.kind || z) (any_global_quiet es)
-    split false n = any_global_quiet es ∙ ap (λ z. z || any_global es) (sym n)
+    split : any_global (globals es) ≡ any_global es → (x : Bool) → is_global_kind e.kind ≡ x → any_global (cond x (e ∷ globals es) (globals es)) ≡ any_global (e ∷ es)
+    split rest true n = ap (λ z. is_global_kind e.kind || z) rest
+    split rest false n = rest ∙ ap (λ z. z || any_global es) (sym n)
 
 loads_quiet : (word g : ℕ) (es : List Happening) → Quiet (cell_of word) → loads word g (globals es) ≡ loads word g es
 loads_quiet word g es q =
@@ -101,11 +101,11 @@ no_loads word g = for_tools_never (λ t. any_enabled word g t []) Load.Callbacks
 -- ---- the global events of an instruction are those of what it raises
 globals_append : (xs ys : List Happening) → globals (xs ++ ys) ≡ globals xs ++ globals ys
 globals_append [] ys = refl
-globals_append (x ∷ xs) ys = split (is_global_kind x.kind)
+globals_append (x ∷ xs) ys = split (globals_append xs ys) (is_global_kind x.kind)
   where
-    split : (b : Bool) → cond b (x ∷ globals (xs ++ ys)) (globals (xs ++ ys)) ≡ cond b (x ∷ globals xs) (globals xs) ++ globals ys
-    split true = ap (λ (l : List Happening). x ∷ l) (globals_append xs ys)
-    split false = globals_append xs ys
+    split : globals (xs ++ ys) ≡ globals xs ++ globals ys → (b : Bool) → cond b (x ∷ globals (xs ++ ys)) (globals (xs ++ ys)) ≡ cond b (x ∷ globals xs) (globals xs) ++ globals ys
+    split rest true = ap (λ (l : List Happening). x ∷ l) rest
+    split rest false = rest
 
 line_local : (f : Frame) (location : ℕ) (line last : Option ℕ) → globals (line_events f location line last) ≡ []
 line_local f location None last = refl

@@ -74,7 +74,7 @@ polled_step false p a b c old new m none poll g s =
     ((s.0, subst (λ (t : Told). RanStep p s.0 t c old new) poll.1 s.1), polled_no p old.state a c m none (subst (λ (t : Told). Grows t c m) poll.1 g))
 
 pub polled_stop : (safe : Bool) (p : Parts) (a b : Told) (old : Progress) → polls_once (instruction_due p old.state) ≡ cond safe 1 0 → PolledDue safe true a b → StepOrStop false p a b old old
-polled_stop true p a b old one poll = (refl, (poll, one))
+polled_stop true p a b old one poll = (refl, poll, one)
 polled_stop false p a b old one poll = absurd (cc (poll.0))
 
 -- a step without an instruction

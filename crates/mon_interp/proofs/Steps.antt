@@ -1,5 +1,5 @@
 -- One step of a thread, by what stands at the location of its innermost frame.
-use Rattle.std.proofs.Common.{◌≡◌, ℕ, ◌+◌, ◌<◌, List, [], ◌∷◌, ◌++◌, length, map, refl, sym, ap, ◌∙◌, subst, Bool, append-nil, arith}
+use Rattle.std.proofs.Common.{◌≡◌, ℕ, ◌+◌, ◌<◌, List, [], ◌∷◌, ◌++◌, length, map, refl, sym, ap, ◌∙◌, subst, Bool, false, append-nil, arith}
 use Rattle.std.specs.Prelude.{Option, Some, None, slice_get}
 use Rattle.std.proofs.lemmas.Option.{slice_get-get_or, slice_get-map}
 use Rattle.mon_events.specs.declared.op.Op.{Op}
@@ -80,7 +80,7 @@ pub no_op : (p : Parts) (board : Board) (s : State) (f : Frame) (c : Code) (word
 no_op p board s f c word e top n b h w o =
     in_found p s f c e top n ∙ ap (λ (x : Option Op). at_location p c x (location_at c f.index) f s.frames) (base_op board p.bases (c.first + f.index) word b h w ∙ sym o)
 
-has_op : (p : Parts) (board : Board) (s : State) (f : Frame) (c : Code) (l : Location) (word : ℕ) (op : Op) → s.mode ≡ Run → top_of s.frames.calls ≡ Some f → Some c ≡ slice_get p.codes f.code → Some l ≡ slice_get c.locations f.index
+pub has_op : (p : Parts) (board : Board) (s : State) (f : Frame) (c : Code) (l : Location) (word : ℕ) (op : Op) → s.mode ≡ Run → top_of s.frames.calls ≡ Some f → Some c ≡ slice_get p.codes f.code → Some l ≡ slice_get c.locations f.index
     → map base_in board.cells ≡ p.bases → c.first + f.index < length board.cells → (cell_of word).base ≡ (cell_at board (c.first + f.index)).base → Some op ≡ op_of (cell_of word).base → step p s ≡ executed p c op l f s.frames
 has_op p board s f c l word op e top n k b h w o =
     in_found p s f c e top n

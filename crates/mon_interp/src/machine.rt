@@ -430,11 +430,16 @@ impl Machine {
             if !self.goes() {
                 return Ok(Stop::Ended);
             }
-            if !self.one_step(program, handle)? {
+            let done = self.one_step(program, handle)?;
+            if !done {
                 return Ok(Stop::Asked);
             }
         }
-        Ok(if self.goes() { Stop::Spent } else { Stop::Ended })
+        if self.goes() {
+            Ok(Stop::Spent)
+        } else {
+            Ok(Stop::Ended)
+        }
     }
 
     /// What is reported of the thread.

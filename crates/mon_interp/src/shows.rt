@@ -31,12 +31,18 @@ fn no_values() -> Shows
     }
 }
 
+fn cut(alloc: Global, program: &Program, value: &Value) -> Result<Cut, AllocError>
+    ensures { IfOk result (λ cut. cut ≡ spec.cut program.now value.now) }
+{
+    Cut::of(alloc, value, program.names.as_slice())
+}
+
 fn cut_or_none(alloc: Global, program: &Program, value: Option<&Value>) -> Result<Cut, AllocError>
     ensures { IfOk result (λ cut. cut ≡ spec.cut_or_none program.now (option_copied value.entry)) }
 {
     match value {
         None => Ok(Cut::absent()),
-        Some(value) => Cut::of(alloc, value, program.names.as_slice()),
+        Some(value) => cut(alloc, program, value),
     }
 }
 

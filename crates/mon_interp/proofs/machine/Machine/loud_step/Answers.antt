@@ -25,7 +25,7 @@ hear-requires-clause-here g c =
     let made = c.in_ok-done.ensures f c.top-frame.ensures in
     let b = c.in_ok-before.before in
     let listed : c.as_slice.result.now ≡ instruction_events p c.args.op n b.place.location c.args.location.line f m =
-    c.as_slice.ensures ∙ c.in_ok-events.ensures f (looked p c.args.op n c.args.number f f b c.in_ok-before.ensures refl) (answered_by p c.args.code.now c.args.op n (with_line c.args.location.line f) (with_frame c.args.self.now.frames (with_line c.args.location.line f)) m made) in
+    c.as_slice.ensures.value ∙ c.in_ok-events.ensures f (looked p c.args.op n c.args.number f f b c.in_ok-before.ensures refl) (answered_by p c.args.code.now c.args.op n (with_line c.args.location.line f) (with_frame c.args.self.now.frames (with_line c.args.location.line f)) m made) in
     subst (λ (es : List Happening). AreAt c.args.number es) (sym (listed ∙ ap (λ k. instruction_events p c.args.op n k c.args.location.line f m) c.in_ok-before.ensures.location_is))
         (instruction_at p c.args.number f c.args.op n c.args.location.line m)
 
@@ -42,7 +42,7 @@ returns-clause-step g c = λ f top number.
     let same : c.top-frame.result.now ≡ f = same_Some c.top-frame.result.now f (sym c.top-frame.ensures ∙ top) in
     let es : List Happening = c.as_slice.result.now in
     let listed : es ≡ instruction_events p c.args.op n (c.args.code.now.first + f.index) c.args.location.line f m =
-    c.as_slice.ensures ∙ c.in_ok-events.ensures f (looked p c.args.op n c.args.number f c.top-frame.result.now before c.in_ok-before.ensures same) (answered_by p c.args.code.now c.args.op n (with_line c.args.location.line f) (with_frame v (with_line c.args.location.line f)) m made)
+    c.as_slice.ensures.value ∙ c.in_ok-events.ensures f (looked p c.args.op n c.args.number f c.top-frame.result.now before c.in_ok-before.ensures same) (answered_by p c.args.code.now c.args.op n (with_line c.args.location.line f) (with_frame v (with_line c.args.location.line f)) m made)
     ∙ ap (λ k. instruction_events p c.args.op n k c.args.location.line f m) (c.in_ok-before.ensures.location_is ∙ number) in
     heard_loud p c.args.code.now c.args.op c.args.location f v m c.args.word a b (progress_of c.args.self.now) (progress_of _) es made
         c.in_ok-go_on.ensures.after c.in_ok-go_on.ensures.printed (ap (λ n. n + 1) c.go_on.ensures.steps) listed

@@ -37,7 +37,7 @@ returns-clause-step g c = λ f top at number.
     let a = g.H.Handle.told c.args.handle.now in
     let b = g.H.Handle.told c.hear.new.handle in
     let es : List Happening = c.push_raise.new.events.items in
-    let same : c.as_slice.result.now ≡ es = c.as_slice.ensures in
+    let same : c.as_slice.result.now ≡ es = c.as_slice.ensures.value in
     heard_still c.args.program.now c.args.code.now c.args.op c.args.location f c.args.self.now.frames (frames_move c.perform.new.frames c.in_ok-done.done) c.args.word c.args.place.location a b (progress_of c.args.self.now) (progress_of _) es
         c.requires.loaded c.requires.quiet number
         (noted_effect c.args.program.now c.args.code.now c.args.op c.args.location f c.args.self.now.frames c.instruct_in_place.new.frames (frames_move c.perform.new.frames c.in_ok-done.done) top (c.instruct_in_place.ensures.no c.if-instruct_in_place.false f top) c.in_ok-done.ensures)
@@ -48,5 +48,5 @@ returns-clause-step g c = λ f top at number.
 
 pub hear-requires-clause-here : goal.hear-requires-clause-here
 hear-requires-clause-here g c =
-    subst (λ (es : List Happening). AreAt c.args.place.location es) (sym (c.as_slice.ensures ∙ c.in_ok-push_raise.ensures))
+    subst (λ (es : List Happening). AreAt c.args.place.location es) (sym (c.as_slice.ensures.value ∙ c.in_ok-push_raise.ensures))
         (global_at c.args.place.location (raise_events c.args.program.now (standing c.args.place) c.in_ok-done.done.ending) (raise_all_global c.args.program.now (standing c.args.place) c.in_ok-done.done.ending))

@@ -18,10 +18,10 @@ returns-then-depth-eq0-clause-step g c =
 
 pub hear_unwinding-requires-clause-global : goal.hear_unwinding-requires-clause-global
 hear_unwinding-requires-clause-global g c =
-    subst (λ (es : List Happening). AreGlobal es) (sym (c.as_slice.ensures ∙ c.in_ok-mode.ensures.events)) (unwinding_global c.args.program.now c.args.self.now.frames c.args.exc)
+    subst (λ (es : List Happening). AreGlobal es) (sym (c.as_slice.ensures.value ∙ c.in_ok-mode.ensures.events)) (unwinding_global c.args.program.now c.args.self.now.frames c.args.exc)
 
 pub returns-clause-step : goal.returns-clause-step
 returns-clause-step g c =
     unwinding_heard c.args.program.now c.args.exc (g.H.Handle.told c.args.handle.now) (g.H.Handle.told c.hear_unwinding.new.handle) (progress_of c.args.self.now) (progress_of _) c.as_slice.result.now
         (ap (λ (m : Mode). let s : State = record { frames = c.unwind.new.frames; mode = m } in s) c.put.ensures ∙ sym c.in_ok-mode.ensures.after) refl refl refl
-        (c.as_slice.ensures ∙ c.in_ok-mode.ensures.events) c.in_ok-hear_unwinding.ensures.heard c.hear_unwinding.ensures.loaded
+        (c.as_slice.ensures.value ∙ c.in_ok-mode.ensures.events) c.in_ok-hear_unwinding.ensures.heard c.hear_unwinding.ensures.loaded
