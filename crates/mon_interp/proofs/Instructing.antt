@@ -8,12 +8,12 @@ use Rattle.mon_code.specs.Programs.{Parts}
 use Rattle.mon_frames.specs.declared.frame.Frame.{Frame}
 use Rattle.mon_frames.specs.declared.call.Call.{Call}
 use Rattle.mon_frames.specs.Views.{FramesView, top_of, with_top}
-use Rattle.mon_machine.specs.State.{State, FrameMove, moved, with_frame}
+use Rattle.mon_machine.specs.State.{Move, FrameMove, moved, with_frame}
 use Rattle.mon_machine.specs.Operations.{operation}
 use Rattle.mon_machine.specs.Moves.{effect, operated}
-use Rattle.mon_machine.specs.Step.{with_line, executed}
+use Rattle.mon_machine.specs.Step.{with_line}
 use Rattle.mon_machine.specs.declared.mode.Ending.TheVariants.{Continues}
-use Rattle.mon_interp.specs.Moving.{Stands, frame_move, ended_by}
+use Rattle.mon_interp.specs.Moving.{Stands, frame_move}
 use Rattle.mon_interp.proofs.Standing.{top_with, stands_with, stands_within}
 
 -- there is an innermost frame
@@ -26,19 +26,6 @@ noted_stands v w line noted h =
     let i = innermost v.calls h in
     subst (λ (z : FramesView). Stands z.calls) (sym (noted i.0 i.1)) (stands_with v.calls i.0 (with_line line i.0) i.1 (stands_within v.calls i.0 h i.1))
 
--- an instruction of the top frame, once this has its line
-pub executed_after : (p : Parts) (c : Code) (op : Op) (l : Location) (f : Frame) (v noted : FramesView) (last : State) → top_of v.calls ≡ Some f → noted ≡ with_frame v (with_line l.line f)
-    → ((g : Frame) → top_of noted.calls ≡ Some g → ended_by p (effect p c op l.argument g noted) ≡ last) → (executed p c op l f v).after ≡ last
-executed_after p c op l f v noted last top notes ends =
-    ap (λ (z : FramesView). ended_by p (effect p c op l.argument (with_line l.line f) z)) (sym notes)
-    ∙ ends (with_line l.line f) (ap (λ (z : FramesView). top_of z.calls) notes ∙ top_with v.calls f (with_line l.line f) top)
-
-pub executed_printed : (p : Parts) (c : Code) (op : Op) (l : Location) (f : Frame) (v noted : FramesView) (printed : List (List ℕ)) → top_of v.calls ≡ Some f → noted ≡ with_frame v (with_line l.line f)
-    → ((g : Frame) → top_of noted.calls ≡ Some g → (effect p c op l.argument g noted).printed ≡ printed) → (executed p c op l f v).printed ≡ printed
-executed_printed p c op l f v noted printed top notes prints =
-    ap (λ (z : FramesView). (effect p c op l.argument (with_line l.line f) z).printed) (sym notes)
-    ∙ prints (with_line l.line f) (ap (λ (z : FramesView). top_of z.calls) notes ∙ top_with v.calls f (with_line l.line f) top)
-
 with_again : (calls : List Call) (f g : Frame) → with_top (with_top calls f) g ≡ with_top calls g
 with_again [] f g = refl
 with_again (call ∷ calls) f g = refl
@@ -49,3 +36,9 @@ in_top_alone p c op n f g v w is made =
     ap (λ (o : Option FrameMove). operated p op n f (with_frame v f) o) is
     ∙ ap (λ (l : List Call). moved (record v { calls = l }) Continues) (with_again v.calls f g)
     ∙ ap (λ (z : FramesView). moved z Continues) (sym made)
+
+pub noted_effect : (p : Parts) (c : Code) (op : Op) (l : Location) (f : Frame) (v noted : FramesView) (m : Move) → top_of v.calls ≡ Some f → noted ≡ with_frame v (with_line l.line f)
+    → ((g : Frame) → top_of noted.calls ≡ Some g → effect p c op l.argument g noted ≡ m) → effect p c op l.argument (with_line l.line f) (with_frame v (with_line l.line f)) ≡ m
+noted_effect p c op l f v noted m top notes made =
+    ap (λ (z : FramesView). effect p c op l.argument (with_line l.line f) z) (sym notes)
+    ∙ made (with_line l.line f) (ap (λ (z : FramesView). top_of z.calls) notes ∙ top_with v.calls f (with_line l.line f) top)

@@ -1,5 +1,5 @@
 -- One step of a thread, by what stands at the location of its innermost frame.
-use Rattle.std.proofs.Common.{◌≡◌, ℕ, ◌+◌, ◌<◌, List, [], ◌∷◌, ◌++◌, length, map, refl, sym, ap, ◌∙◌, subst, Bool, append-nil, arith}
+use Rattle.std.proofs.Common.{◌≡◌, ℕ, ◌+◌, ◌<◌, List, [], ◌∷◌, ◌++◌, length, map, refl, sym, ap, ◌∙◌, subst, Bool, false, append-nil, arith}
 use Rattle.std.specs.Prelude.{Option, Some, None, slice_get}
 use Rattle.std.proofs.lemmas.Option.{slice_get-get_or, slice_get-map}
 use Rattle.mon_events.specs.declared.op.Op.{Op}
@@ -18,18 +18,14 @@ use Rattle.mon_frames.specs.declared.call.Origin.{Origin}
 use Rattle.mon_frames.specs.declared.call.Origin.TheVariants.{Plain, Generator as Generated}
 use Rattle.mon_frames.specs.Calls.{handler_due}
 use Rattle.mon_frames.specs.Views.{FramesView, top_of, without_top}
-use Rattle.mon_recorders.specs.declared.record.Record.{Record}
-use Rattle.mon_recorders.specs.declared.happening.Kind.{Kind}
 use Rattle.mon_machine.specs.declared.mode.Mode.{Mode}
 use Rattle.mon_machine.specs.declared.mode.Mode.TheVariants.{Run, Unwind}
 use Rattle.mon_values.specs.declared.value.Exc.{Exc}
 use Rattle.mon_machine.specs.State.{State}
+use Rattle.mon_words.specs.Told.{Told, Grows, Polls}
+use Rattle.mon_words.specs.declared.history.Mark.{Mark}
+use Rattle.mon_machine.specs.Advances.{Due, due_at, due_in, due_in_top, due_in_mode, instruction_due, polls_once, PolledOnce}
 use Rattle.mon_machine.specs.Step.{Step, step, in_mode, in_code, at_location, runs_top, executed, unwinds, unwinds_from, goes_out, stuck}
-use Rattle.mon_machine.specs.Run.{Progress, is_heard, heard}
-use Rattle.mon_interp.specs.Heard.{cell_hears}
-use Rattle.mon_interp.specs.Machines.{Stepped}
-use Rattle.mon_machine.proofs.Heard.{is_heard-line_alone, heard_unwinds}
-use Rattle.mon_interp.proofs.Heard.{executed_by_cell}
 
 runs : (p : Parts) (s : State) → s.mode ≡ Run → step p s ≡ runs_top p s.frames s.frames.calls
 unfolding step
@@ -84,30 +80,60 @@ pub no_op : (p : Parts) (board : Board) (s : State) (f : Frame) (c : Code) (word
 no_op p board s f c word e top n b h w o =
     in_found p s f c e top n ∙ ap (λ (x : Option Op). at_location p c x (location_at c f.index) f s.frames) (base_op board p.bases (c.first + f.index) word b h w ∙ sym o)
 
-has_op : (p : Parts) (board : Board) (s : State) (f : Frame) (c : Code) (l : Location) (word : ℕ) (op : Op) → s.mode ≡ Run → top_of s.frames.calls ≡ Some f → Some c ≡ slice_get p.codes f.code → Some l ≡ slice_get c.locations f.index
+pub has_op : (p : Parts) (board : Board) (s : State) (f : Frame) (c : Code) (l : Location) (word : ℕ) (op : Op) → s.mode ≡ Run → top_of s.frames.calls ≡ Some f → Some c ≡ slice_get p.codes f.code → Some l ≡ slice_get c.locations f.index
     → map base_in board.cells ≡ p.bases → c.first + f.index < length board.cells → (cell_of word).base ≡ (cell_at board (c.first + f.index)).base → Some op ≡ op_of (cell_of word).base → step p s ≡ executed p c op l f s.frames
 has_op p board s f c l word op e top n k b h w o =
     in_found p s f c e top n
     ∙ ap (λ (x : Option Op). at_location p c x (location_at c f.index) f s.frames) (base_op board p.bases (c.first + f.index) word b h w ∙ sym o)
     ∙ ap (λ (x : Option Location). at_location p c (Some op) x f s.frames) (sym k)
 
-pub stepped_by : {s t : Step} {hears : Kind → ℕ → Bool} {old new : Progress} → s ≡ t → Stepped t hears old new → Stepped s hears old new
-stepped_by {s} {t} {hears} {old} {new} e done = subst (λ (x : Step). Stepped x hears old new) (sym e) done
+-- ---- the instruction that is due
 
--- what the word lets through is what the board that it shows does
-pub stepped_lawful : (p : Parts) (first stands : Board) (old new : Progress) (f : Frame) (c : Code) (l : Location) (word : ℕ) (op : Op) → old.state.mode ≡ Run → top_of old.state.frames.calls ≡ Some f → Some c ≡ slice_get p.codes f.code → Some l ≡ slice_get c.locations f.index
-    → map base_in first.cells ≡ p.bases → c.first + f.index < length first.cells → (cell_of word).base ≡ (cell_at first (c.first + f.index)).base
-    → cell_of word ≡ cell_at stands (c.first + f.index) → Some op ≡ op_of (cell_of word).base
-    → Stepped (executed p c op l f old.state.frames) (cell_hears (cell_of word)) old new → Stepped (step p old.state) (is_heard stands) old new
-stepped_lawful p first stands old new f c l word op e top n k b h w shows o t =
-    let v : FramesView = old.state.frames in
-    stepped_by (has_op p first old.state f c l word op e top n k b h w o) (record {
-      state = t.state;
-      printed = t.printed;
-      records = t.records ∙ ap (λ (r : List Record). old.records ++ r)
-          (ap (λ (cell : Cell). heard (cell_hears cell) old.steps (executed p c op l f v).events) shows ∙ sym (executed_by_cell stands old.steps p c op l f v));
-      steps = t.steps;
-    })
+due_run : (p : Parts) (s : State) → s.mode ≡ Run → instruction_due p s ≡ due_in_top p s.frames.calls
+unfolding instruction_due
+due_run p s e = ap (λ (m : Mode). due_in_mode p s.frames.calls m) e
+
+pub due_unwinds : (p : Parts) (s : State) (e : Exc) → s.mode ≡ Unwind e → instruction_due p s ≡ None
+unfolding instruction_due
+due_unwinds p s x e = ap (λ (m : Mode). due_in_mode p s.frames.calls m) e
+
+due_no_top : (p : Parts) (calls : List Call) → length calls ≡ 0 → due_in_top p calls ≡ None
+due_no_top p [] e = refl
+due_no_top p (call ∷ calls) e = absurd (omega (arith, e))
+
+pub due_no_frame : (p : Parts) (s : State) → s.mode ≡ Run → length s.frames.calls ≡ 0 → instruction_due p s ≡ None
+due_no_frame p s e h = due_run p s e ∙ due_no_top p s.frames.calls h
+
+due_by_top : (p : Parts) (calls : List Call) (f : Frame) → top_of calls ≡ Some f → due_in_top p calls ≡ due_in (slice_get p.codes f.code) f.index
+due_by_top p [] f e = absurd cc
+due_by_top p (call ∷ calls) f e = let same : call.frame ≡ f = cc in ap (λ (g : Frame). due_in (slice_get p.codes g.code) g.index) same
+
+pub due_no_code : (p : Parts) (s : State) (f : Frame) → s.mode ≡ Run → top_of s.frames.calls ≡ Some f → None ≡ slice_get p.codes f.code → instruction_due p s ≡ None
+due_no_code p s f e top n = due_run p s e ∙ due_by_top p s.frames.calls f top ∙ ap (λ (o : Option Code). due_in o f.index) (sym n)
+
+due_of_code : (p : Parts) (s : State) (f : Frame) (c : Code) → s.mode ≡ Run → top_of s.frames.calls ≡ Some f → Some c ≡ slice_get p.codes f.code → instruction_due p s ≡ due_at (c.first + f.index) (slice_get c.locations f.index)
+due_of_code p s f c e top n = due_run p s e ∙ due_by_top p s.frames.calls f top ∙ ap (λ (o : Option Code). due_in o f.index) (sym n)
+
+pub due_no_location : (p : Parts) (s : State) (f : Frame) (c : Code) → s.mode ≡ Run → top_of s.frames.calls ≡ Some f → Some c ≡ slice_get p.codes f.code → None ≡ slice_get c.locations f.index → instruction_due p s ≡ None
+due_no_location p s f c e top n l = due_of_code p s f c e top n ∙ ap (λ (o : Option Location). due_at (c.first + f.index) o) (sym l)
+
+pub due_here : (p : Parts) (s : State) (f : Frame) (c : Code) (l : Location) → s.mode ≡ Run → top_of s.frames.calls ≡ Some f → Some c ≡ slice_get p.codes f.code → Some l ≡ slice_get c.locations f.index
+    → instruction_due p s ≡ Some (record { location = c.first + f.index; is_safe = l.is_safe })
+due_here p s f c l e top n k = due_of_code p s f c e top n ∙ ap (λ (o : Option Location). due_at (c.first + f.index) o) (sym k)
+
+-- ---- polls
+
+pub polled_no : (p : Parts) (s : State) (a b : Told) (m : List Mark) → polls_once (instruction_due p s) ≡ 0 → Grows a b m → PolledOnce p s a b
+polled_no p s a b m none g = record {
+  polls = ap (λ (t : Told). t.tally.polls) g.rest ∙ omega (arith, none);
+  polled = ap (λ (t : Told). t.tally.polled) g.rest;
+}
+
+pub polled_yes : (p : Parts) (s : State) (a b c : Told) (m : List Mark) → polls_once (instruction_due p s) ≡ 1 → Polls a false b → Grows b c m → PolledOnce p s a c
+polled_yes p s a b c m one poll g = record {
+  polls = ap (λ (t : Told). t.tally.polls) g.rest ∙ ap (λ (t : Told). t.tally.polls) poll.rest ∙ omega (arith, one);
+  polled = ap (λ (t : Told). t.tally.polled) g.rest ∙ ap (λ (t : Told). t.tally.polled) poll.rest;
+}
 
 -- the search for a handler prints nothing
 goes_out_silent : (p : Parts) (v : FramesView) (calls : List Call) (e : Exc) (f : Frame) → (goes_out p v calls e f).printed ≡ []
@@ -120,17 +146,6 @@ unwinds_from_silent p v (Generated number by) e f None = refl
 unwinds_from_silent p v Plain e f (Some h) = refl
 unwinds_from_silent p v (Generated number by) e f (Some h) = refl
 
-unwinds_silent : (p : Parts) (v : FramesView) (e : Exc) (calls : List Call) → (unwinds p v e calls).printed ≡ []
+pub unwinds_silent : (p : Parts) (v : FramesView) (e : Exc) (calls : List Call) → (unwinds p v e calls).printed ≡ []
 unwinds_silent p v e [] = refl
 unwinds_silent p v e (call ∷ calls) = unwinds_from_silent p v call.origin e call.frame (handler_due p call.frame.code call.frame.index)
-
-pub stepped_unwinds : (p : Parts) (b : Board) (e : Exc) (old new : Progress) → new.state ≡ (unwinds p old.state.frames e old.state.frames.calls).after → new.printed ≡ old.printed → new.records ≡ old.records → new.steps ≡ old.steps + 1
-    → Stepped (unwinds p old.state.frames e old.state.frames.calls) (is_heard b) old new
-stepped_unwinds p b e old new after printed records steps =
-    let v : FramesView = old.state.frames in
-    record {
-      state = after;
-      printed = printed ∙ sym (append-nil old.printed) ∙ ap (λ (l : List (List ℕ)). old.printed ++ l) (sym (unwinds_silent p v e v.calls));
-      records = records ∙ sym (append-nil old.records) ∙ ap (λ (l : List Record). old.records ++ l) (sym (heard_unwinds (is_heard b) old.steps p v e v.calls (is_heard-line_alone b)));
-      steps = steps;
-    }

@@ -1,21 +1,13 @@
-use Rattle.std.proofs.Common.{◌≡◌, inl, inr, ap, sym, ◌∙◌}
-use Rattle.mon_machine.specs.Run.{Progress}
-use Rattle.mon_machine.specs.Bare.{plain_after}
-use Rattle.mon_machine.proofs.Bare.{ran_bare}
+use Rattle.std.proofs.Common.{◌≡◌, ap, ◌∙◌}
+use Rattle.mon_machine.specs.Advances.{Progress, Advanced, plain_after}
+use Rattle.mon_machine.proofs.BareAdvances.{bare_whole}
 use Rattle.mon_interp.specs.Machines.{progress_of}
 use Rattle.mon_interp.specs.Threads.{ThreadView}
 use Rattle.mon_interp.proofs.thread.Thread.advance.Goals as goal
 
-pub returns-in-Ok-true-clause-bare : goal.returns-in-Ok-true-clause-bare
-returns-in-Ok-true-clause-bare g c = λ bare.
+pub returns-in-Ok-clause-bare : goal.returns-in-Ok-clause-bare
+returns-in-Ok-clause-bare g c = λ bare asked.
     let old : Progress = progress_of c.self.inside.machine in
     let same : old ≡ c.args.self.now.progress = ap (λ (t : ThreadView). t.progress) c.self.view_is in
-    ran_bare c.args.program.now _ _ _ old (progress_of c.advance.new.self) c.args.steps bare c.advance.ensures.grows.begins c.advance.ensures.grows.quiet c.in-Ok-true.ensures.run (inr (c.in-Ok-true.ensures.spent c.in-Ok-true.field-0-test)) c.advance.ensures.counted.1
-    ∙ ap (λ (x : Progress). plain_after c.args.program.now c.args.steps x) same
-
-pub returns-in-Ok-false-clause-bare : goal.returns-in-Ok-false-clause-bare
-returns-in-Ok-false-clause-bare g c = λ bare.
-    let old : Progress = progress_of c.self.inside.machine in
-    let same : old ≡ c.args.self.now.progress = ap (λ (t : ThreadView). t.progress) c.self.view_is in
-    ran_bare c.args.program.now _ _ _ old (progress_of c.advance.new.self) c.args.steps bare c.advance.ensures.grows.begins c.advance.ensures.grows.quiet c.in-Ok-false.ensures.run (inl (sym c.in-Ok-false.ensures.goes ∙ c.in-Ok-false.field-0-test)) c.advance.ensures.counted.1
+    bare_whole c.args.program.now c.args.steps (g.H.Handle.told c.args.handle.now) (g.H.Handle.told c.advance.new.handle) old (progress_of c.advance.new.self) bare c.advance.ensures.stays c.in-Ok.ensures.run asked
     ∙ ap (λ (x : Progress). plain_after c.args.program.now c.args.steps x) same
