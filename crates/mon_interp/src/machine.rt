@@ -18,7 +18,7 @@ use mon_events::{Op, op_of_number};
 use mon_frames::Frames;
 use mon_hear::{hear, hear_unwinding, retire_due};
 use mon_machine::Mode;
-use mon_recorders::{Disabled, Outcome, Record, ThreadReport};
+use mon_recorders::{Disabled, Outcome, Records, ThreadReport};
 use mon_values::text::Text;
 use mon_values::value::Exc;
 use mon_words::{Handle, is_quiet, unpack};
@@ -33,7 +33,7 @@ pub struct Machine {
     pub frames: Frames,
     pub mode: Mode,
     pub printed: Items<Text>,
-    pub records: Items<Record>,
+    pub records: Records,
     pub disables: Items<Disabled>,
     pub steps: u64,
 }

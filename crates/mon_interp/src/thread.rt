@@ -6,7 +6,7 @@ use crate::machine::Machine;
 use mon_code::{Code, Program};
 use mon_frames::Frames;
 use mon_machine::Mode;
-use mon_recorders::ThreadReport;
+use mon_recorders::{Records, ThreadReport};
 use mon_values::value::{Value, copies_of};
 use mon_words::Handle;
 use sqlite_items::Items;
@@ -114,7 +114,7 @@ impl Thread {
             frames,
             mode: Mode::Run,
             printed: Items::new(alloc),
-            records: Items::new(alloc),
+            records: Records::new(alloc),
             disables: Items::new(alloc),
             steps: 0,
         };
