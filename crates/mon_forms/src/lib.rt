@@ -9,6 +9,7 @@ mod lines;
 mod operands;
 mod plan;
 mod read;
+mod report;
 
 pub use calls::{CallKind, CallParts, Operand};
 pub use limits::{
@@ -17,3 +18,4 @@ pub use limits::{
 };
 pub use plan::{Move, Plan, PlanFault, PlanKind, ReportKind, ReportLine, Start, Workload};
 pub use read::read_plan;
+pub use report::Report;
