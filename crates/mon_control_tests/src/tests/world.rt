@@ -1,9 +1,12 @@
-ghost use Rattle.std.specs.Prelude.{◌≡◌, ◌<◌, ℕ, true, length, IfOk, IsTrue};
-ghost use Rattle.mon_board.specs.PlainViews.{plain_halt, IsRunning};
+ghost use Rattle.std.specs.Prelude.{◌≡◌, ◌<◌, ℕ, true, length, slice_index, IfOk, IsTrue};
+ghost use Rattle.mon_board.specs.Plain.{first_plain};
+ghost use Rattle.mon_board.specs.PlainViews.{plain_halt};
 ghost use Rattle.mon_control.specs.View.{NamesCode};
 ghost use Rattle.mon_control_tests.specs.Ready.{IsReady};
 ghost use Rattle.mon_history.specs.Journal.{replay};
 ghost use Rattle.mon_history.specs.Registry as registry;
+ghost use Rattle.mon_words.specs.Standing.{board_of};
+ghost use Rattle.mon_words.specs.Words.{first_words};
 
 use super::made::{Made, Touched};
 use mon_board::{PlainBoard, PlainHalted, PlainHaltedRest};
@@ -126,6 +129,15 @@ fn compiled(alloc: Global, text: &str) -> Result<(Program, Vec<u8>), Fail>
     Ok(compile(alloc, &module)?)
 }
 
+// The board of a program's first words.
+fn first_board(alloc: Global, threads: u8, bases: &[u8]) -> Result<PlainBoard, Fail>
+    ensures view { IfOk result (λ b. b.chair.me.0 ≡ first_plain threads (board_of (first_words bases.now))) }
+    ensures bytes { (l : ℕ) → slice_index bases.now l < 256 }
+{
+    let words = first_words(alloc, bases)?;
+    Ok(PlainBoard::new(alloc, threads, words.as_slice())?)
+}
+
 /// A program, the registry, and a board of the program's words.
 #[derive(Drop)]
 pub struct World {
@@ -140,8 +152,7 @@ impl World {
     pub fn new(alloc: Global, text: &str, threads: u8) -> Result<World, Fail> {
         let (program, bases) = compiled(alloc, text)?;
         let control = Control::new(alloc, &program, threads)?;
-        let words = first_words(alloc, bases.as_slice())?;
-        let board = PlainBoard::new(alloc, threads, words.as_slice())?;
+        let board = first_board(alloc, threads, bases.as_slice())?;
         Ok(World {
             program,
             control,
