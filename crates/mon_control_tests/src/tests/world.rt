@@ -1,12 +1,17 @@
-ghost use Rattle.std.specs.Prelude.{◌≡◌, ◌<◌, ℕ, true, length, IfOk, IsTrue};
-ghost use Rattle.mon_board.specs.PlainViews.{plain_halt, IsRunning};
-ghost use Rattle.mon_control.specs.View.{NamesCode};
+ghost use Rattle.std.specs.Prelude.{◌≡◌, ◌<◌, ℕ, true, length, slice_index, IfOk, IsTrue};
+ghost use Rattle.mon_board.specs.Plain.{first_plain};
+ghost use Rattle.mon_code.specs.Sites.{sites_of};
+ghost use Rattle.mon_control.specs.View.{NamesCode, Commits};
 ghost use Rattle.mon_control_tests.specs.Ready.{IsReady};
 ghost use Rattle.mon_history.specs.Journal.{replay};
 ghost use Rattle.mon_history.specs.Registry as registry;
+ghost use Rattle.mon_history.specs.Stands.{StandsFor};
+ghost use Rattle.mon_words.specs.History.{after};
+ghost use Rattle.mon_words.specs.Standing.{board_of};
+ghost use Rattle.mon_words.specs.Words.{first_words};
 
 use super::made::{Made, Touched};
-use mon_board::{PlainBoard, PlainHalted, PlainHaltedRest};
+use mon_board::PlainBoard;
 use mon_code::Program;
 use mon_compile::compile;
 use mon_control::{Control, Prepared, Ready};
@@ -17,18 +22,24 @@ use mon_words::{Halted, first_words};
 use std::alloc::Global;
 use std::test::Fail;
 
-/// A halted board that counts what is done.
-struct Counted<'a> {
-    inner: PlainHalted<'a>,
+/// What calls on a counted board leave as it was. No value of it is made when a test runs.
+pub struct CountedRest<R> {
+    pub borrow: u64,
+    pub rest: R,
+}
+
+/// A halted board, with the count of what is done on it.
+struct Counted<'a, H> {
+    inner: &'a mut H,
     counts: Touched,
 }
 
-impl Halted for Counted<'_> {
-    type Rest = PlainHaltedRest;
+impl<H: Halted> Halted for Counted<'_, H> {
+    type Rest = CountedRest<H::Rest>;
 
-    ghost halt = { λ h. plain_halt h.inner.board.now.chair.me.0 };
+    ghost halt = { λ h. H.halt h.inner.now };
 
-    ghost rest = { λ h. record { borrow = h.inner.board.ghost_name; counts = h.inner.board.now.chair.me.0.counts } };
+    ghost rest = { λ h. record { borrow = h.inner.ghost_name; rest = H.rest h.inner.now } };
 
     fn read(&mut self, location: u32) -> u64 {
         let word = self.inner.read(location);
@@ -59,6 +70,37 @@ impl Halted for Counted<'_> {
     }
 }
 
+// Makes a call in a stopped world.
+fn commit_on<H: Halted>(
+    control: &mut Control,
+    program: &Program,
+    halted: &mut H,
+    ready: Ready,
+) -> Made
+    requires stops { registry.stops (replay control.old.journal) ready.call ≡ true }
+    requires room { 0 < control.old.room }
+    requires few { length control.old.journal < 256 }
+    requires counts { length ready.counts ≡ control.old.threads }
+    requires code { NamesCode control.old.codes ready.call }
+    requires codes { length program.now.codes ≡ control.old.codes }
+    requires threads { (H.halt halted.old).threads ≡ control.old.threads }
+    requires stands { StandsFor (sites_of program.now) control.old.journal (H.halt halted.old).first (H.halt halted.old).seen }
+    requires board { (H.halt halted.old).board ≡ after (H.halt halted.old).first (H.halt halted.old).seen }
+    ensures threads { control.new.threads ≡ control.old.threads }
+    ensures codes { control.new.codes ≡ control.old.codes }
+    ensures commits { Commits program.now control.old.threads control.old.journal ready.who ready.call (H.halt halted.old) (H.halt halted.new) control.new.journal }
+    ensures rest { H.rest halted.new ≡ H.rest halted.old }
+{
+    let mut counted = Counted {
+        inner: halted,
+        counts: Touched::NOTHING,
+    };
+    let reply = control.commit(ready, program, &mut counted);
+    let Counted { inner: _, counts } = counted;
+    Made { reply, counts }
+}
+
+// Makes a call on the halted board.
 fn commit(control: &mut Control, program: &Program, board: &mut PlainBoard, ready: Ready) -> Made
     requires ready { IsReady program.now control.old board.old.chair.me.0 }
     requires stops { registry.stops (replay control.old.journal) ready.call ≡ true }
@@ -68,14 +110,10 @@ fn commit(control: &mut Control, program: &Program, board: &mut PlainBoard, read
     requires code { NamesCode control.old.codes ready.call }
     ensures { IsReady program.now control.new board.new.chair.me.0 }
 {
-    let mut halted = Counted {
-        inner: board.halted(),
-        counts: Touched::NOTHING,
-    };
-    let reply = control.commit(ready, program, &mut halted);
-    let Counted { inner, counts } = halted;
-    inner.release();
-    Made { reply, counts }
+    let mut halted = board.halted();
+    let made = commit_on(control, program, &mut halted, ready);
+    halted.release();
+    made
 }
 
 // Whether a code that the call names is one of so many.
@@ -126,6 +164,15 @@ fn compiled(alloc: Global, text: &str) -> Result<(Program, Vec<u8>), Fail>
     Ok(compile(alloc, &module)?)
 }
 
+// The board of a program's first words.
+fn first_board(alloc: Global, threads: u8, bases: &[u8]) -> Result<PlainBoard, Fail>
+    ensures view { IfOk result (λ b. b.chair.me.0 ≡ first_plain threads (board_of (first_words bases.now))) }
+    ensures bytes { (l : ℕ) → slice_index bases.now l < 256 }
+{
+    let words = first_words(alloc, bases)?;
+    Ok(PlainBoard::new(alloc, threads, words.as_slice())?)
+}
+
 /// A program, the registry, and a board of the program's words.
 #[derive(Drop)]
 pub struct World {
@@ -140,8 +187,7 @@ impl World {
     pub fn new(alloc: Global, text: &str, threads: u8) -> Result<World, Fail> {
         let (program, bases) = compiled(alloc, text)?;
         let control = Control::new(alloc, &program, threads)?;
-        let words = first_words(alloc, bases.as_slice())?;
-        let board = PlainBoard::new(alloc, threads, words.as_slice())?;
+        let board = first_board(alloc, threads, bases.as_slice())?;
         Ok(World {
             program,
             control,
