@@ -83,8 +83,8 @@ pub nowhere : (p : Parts) (a : Told) (old new : Progress) → Owns a → old.sta
 nowhere p a old new own run none stands is = ((length a.seen, ran_stuck p a old new own (ap goes run) none stands is), polled_no p old.state a a [] (ap polls_once none) (grows_refl a))
 
 -- a step of the search for a handler
-pub unwound : (p : Parts) (e : Exc) (a b : Told) (old new : Progress) → Owns a → old.state.mode ≡ Mode.Unwind e → Grows a b [] → RanUnwinding p e a b (record old { state = record { frames = old.state.frames; mode = Mode.Run } }) new → StepOrStop true p a b old new
-unwound p e a b old new own is grows r =
+pub unwound : (p : Parts) (e : Exc) (mode : Mode) (a b : Told) (old new : Progress) → Owns a → old.state.mode ≡ Mode.Unwind e → Grows a b [] → RanUnwinding p e a b (record old { state = record { frames = old.state.frames; mode = mode } }) new → StepOrStop true p a b old new
+unwound p e mode a b old new own is grows r =
     let none : instruction_due p old.state ≡ None = due_unwinds p old.state e is in
     let stands : step p old.state ≡ unwinds p old.state.frames e old.state.frames.calls = unwinding p old.state e is in
     let back : unwinds p old.state.frames e old.state.frames.calls ≡ step p old.state = sym stands in

@@ -1,10 +1,11 @@
-use Rattle.std.proofs.Common.{◌≡◌, ◌++◌, List, ap, sym, ◌∙◌, refl, subst}
+use Rattle.std.proofs.Common.{rules, ◌≡◌, ◌++◌, List, [], ap, sym, ◌∙◌, refl, subst}
 use Rattle.mon_words.specs.History.{after}
 use Rattle.mon_recorders.specs.declared.happening.Happening.{Happening}
 use Rattle.mon_hear.specs.Hearing.{AreGlobal}
 use Rattle.mon_hear.specs.Words.{loads}
 use Rattle.mon_machine.specs.declared.mode.Mode.{Mode}
 use Rattle.mon_machine.specs.State.{State}
+use Rattle.mon_machine.specs.Step.{unwinds}
 use Rattle.mon_interp.specs.Machines.{progress_of, state_of}
 use Rattle.mon_interp.proofs.Steps.{no_unwinds}
 use Rattle.mon_interp.proofs.Hearing.{unwinding_global}
@@ -18,10 +19,12 @@ returns-then-depth-eq0-clause-step g c =
 
 pub hear_unwinding-requires-clause-global : goal.hear_unwinding-requires-clause-global
 hear_unwinding-requires-clause-global g c =
-    subst (λ (es : List Happening). AreGlobal es) (sym (c.as_slice.ensures.value ∙ c.in_ok-mode.ensures.events)) (unwinding_global c.args.program.now c.args.self.now.frames c.args.exc)
+    let none : c.new-events.result.items ≡ [] = search rules in
+    subst (λ (es : List Happening). AreGlobal es) (sym (c.as_slice.ensures.value ∙ c.in_ok-mode.ensures.events ∙ ap (λ (l : List Happening). l ++ (unwinds c.args.program.now c.args.self.now.frames c.args.exc c.args.self.now.frames.calls).events) none)) (unwinding_global c.args.program.now c.args.self.now.frames c.args.exc)
 
 pub returns-clause-step : goal.returns-clause-step
 returns-clause-step g c =
+    let none : c.new-events.result.items ≡ [] = search rules in
     unwinding_heard c.args.program.now c.args.exc (g.H.Handle.told c.args.handle.now) (g.H.Handle.told c.hear_unwinding.new.handle) (progress_of c.args.self.now) (progress_of _) c.as_slice.result.now
         (ap (λ (m : Mode). let s : State = record { frames = c.unwind.new.frames; mode = m } in s) c.put.ensures ∙ sym c.in_ok-mode.ensures.after) refl refl refl
-        (c.as_slice.ensures.value ∙ c.in_ok-mode.ensures.events) c.in_ok-hear_unwinding.ensures.heard c.hear_unwinding.ensures.loaded
+        (c.as_slice.ensures.value ∙ c.in_ok-mode.ensures.events ∙ ap (λ (l : List Happening). l ++ (unwinds c.args.program.now c.args.self.now.frames c.args.exc c.args.self.now.frames.calls).events) none) c.in_ok-hear_unwinding.ensures.heard c.hear_unwinding.ensures.loaded
