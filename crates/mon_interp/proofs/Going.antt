@@ -58,7 +58,7 @@ going_last p turn steps a b old new h within all =
 pub going_asked : (p : Parts) (turn steps : ℕ) (a b c : Told) (old mid new : Progress) → Going p turn a b old mid → turn < steps → goes mid.state.mode ≡ true → StepOrStop false p b c mid new → Advanced p steps a c old new
 going_asked p turn steps a b c old mid new h within on stop =
     subst (λ (x : Progress). Advanced p steps a c old x) (sym stop.0)
-        (advanced_asked p steps h.at a b c old mid h.ran h.polled stop.1 (omega (arith, within, h.count)) h.unwinds on stop.2)
+    (advanced_asked p steps h.at a b c old mid h.ran h.polled stop.1 (omega (arith, within, h.count)) h.unwinds on stop.2)
 
 less_more : (x y : ℕ) → y ≡ x + 1 → nat_lt x y ≡ true
 less_more x y e = grind (arith, nat_tests)

@@ -179,8 +179,8 @@ heard_still p c op l f v m word location a b old new es here quiet number e stat
     let some : globals all ≡ es = instruction_globals p op l.argument (c.first + f.index) l.line f m ∙ sym is in
     let at : AreAt (c.first + f.index) all = instruction_at p (c.first + f.index) f op l.argument l.line m in
     heard_loud p c op l f v m word a b old new all e state printed steps refl
-        (heard_quiet old.steps (c.first + f.index) word all es a b old.records new.records old.disables new.disables (here ∙ ap (cell_at (after a.first a.seen)) number) quiet at some heard)
-        (loaded ∙ ap (λ (l : List Happening). a.tally.loads ++ loads word (after a.first a.seen).global l) (sym some) ∙ ap (λ (l : List Load). a.tally.loads ++ l) (loads_quiet word (after a.first a.seen).global all quiet))
+    (heard_quiet old.steps (c.first + f.index) word all es a b old.records new.records old.disables new.disables (here ∙ ap (cell_at (after a.first a.seen)) number) quiet at some heard)
+    (loaded ∙ ap (λ (l : List Happening). a.tally.loads ++ loads word (after a.first a.seen).global l) (sym some) ∙ ap (λ (l : List Load). a.tally.loads ++ l) (loads_quiet word (after a.first a.seen).global all quiet))
 
 -- nothing to hear
 pub heard_none : (i : ℕ) (a b : Told) (rs : List Record) (ds : List Disabled) → Grows a b [] → Heard i [] a b rs rs ds ds
@@ -283,12 +283,12 @@ pub ran_stuck : (p : Parts) (a : Told) (old new : Progress) → Owns a → goes 
 ran_stuck p a old new own on is stands e =
     let events : (step p old.state).events ≡ [] = ap (λ (s : Step). s.events) stands in
     ran_elsewhere p a a old new on is (grows_refl a)
-        (ap (λ (x : Progress). x.state) e ∙ ap (λ (s : Step). s.after) (sym stands))
-        (ap (λ (x : Progress). x.printed) e ∙ sym (append-nil old.printed) ∙ ap (λ (s : Step). old.printed ++ s.printed) (sym stands))
-        (ap (λ (x : Progress). x.disables) e)
-        (ap (λ (x : Progress). x.steps) e)
-        (subst (λ (l : List Happening). UnwindingHeard old.steps l a a old.records new.records) (sym events) (unheard_still old.steps a old.records new.records own (ap (λ (x : Progress). x.records) e)))
-        (sym (append-nil a.tally.loads) ∙ ap (λ (l : List Load). a.tally.loads ++ l) (sym (no_loads 0 (after a.first a.seen).global)) ∙ ap (λ (l : List Happening). a.tally.loads ++ loads 0 (after a.first a.seen).global l) (sym events))
+    (ap (λ (x : Progress). x.state) e ∙ ap (λ (s : Step). s.after) (sym stands))
+    (ap (λ (x : Progress). x.printed) e ∙ sym (append-nil old.printed) ∙ ap (λ (s : Step). old.printed ++ s.printed) (sym stands))
+    (ap (λ (x : Progress). x.disables) e)
+    (ap (λ (x : Progress). x.steps) e)
+    (subst (λ (l : List Happening). UnwindingHeard old.steps l a a old.records new.records) (sym events) (unheard_still old.steps a old.records new.records own (ap (λ (x : Progress). x.records) e)))
+    (sym (append-nil a.tally.loads) ∙ ap (λ (l : List Load). a.tally.loads ++ l) (sym (no_loads 0 (after a.first a.seen).global)) ∙ ap (λ (l : List Happening). a.tally.loads ++ loads 0 (after a.first a.seen).global l) (sym events))
 
 -- by values that are the same
 pub heard_by : (i j : ℕ) (es fs : List Happening) (a b : Told) (rs rs1 rs2 : List Record) (ds ds1 ds2 : List Disabled) → j ≡ i → fs ≡ es → rs1 ≡ rs → ds1 ≡ ds → Heard j fs a b rs1 rs2 ds1 ds2 → Heard i es a b rs rs2 ds ds2

@@ -42,16 +42,16 @@ pub stuck_at : (p : Parts) (c : Code) (l : Location) (place : Place) (word : ℕ
 stuck_at p c l place word a mid old new h run bases within loaded none is =
     let number : place.location ≡ c.first + h.frame.index = h.number in
     subst (λ (s : Step). HeardStep s word mid mid old new)
-        (sym (no_op p a.first old.state h.frame c word run h.top h.code bases (subst (λ n. n < length a.first.cells) number within) (loaded.base ∙ ap (λ n. (cell_at a.first n).base) number) none))
-        (heard_stuck old.state.frames word mid old new is)
+    (sym (no_op p a.first old.state h.frame c word run h.top h.code bases (subst (λ n. n < length a.first.cells) number within) (loaded.base ∙ ap (λ n. (cell_at a.first n).base) number) none))
+    (heard_stuck old.state.frames word mid old new is)
 
 pub done_at : (p : Parts) (c : Code) (l : Location) (place : Place) (word : ℕ) (op : Op) (a mid b : Told) (old new : Progress) (h : StandsHere p c l place old.state) → old.state.mode ≡ Run → map base_in a.first.cells ≡ p.bases → place.location < length a.first.cells
     → Loads a place.location word mid → Some op ≡ op_of (cell_of word).base → HeardStep (executed p c op l h.frame old.state.frames) word mid b old new → HeardStep (step p old.state) word mid b old new
 done_at p c l place word op a mid b old new h run bases within loaded some heard =
     let number : place.location ≡ c.first + h.frame.index = h.number in
     subst (λ (s : Step). HeardStep s word mid b old new)
-        (sym (has_op p a.first old.state h.frame c l word op run h.top h.code h.location bases (subst (λ n. n < length a.first.cells) number within) (loaded.base ∙ ap (λ n. (cell_at a.first n).base) number) some))
-        heard
+    (sym (has_op p a.first old.state h.frame c l word op run h.top h.code h.location bases (subst (λ n. n < length a.first.cells) number within) (loaded.base ∙ ap (λ n. (cell_at a.first n).base) number) some))
+    heard
 
 -- the polls of a step here
 pub unpolled : (p : Parts) (c : Code) (l : Location) (place : Place) (s : State) (h : StandsHere p c l place s) → s.mode ≡ Run → polls_once (instruction_due p s) ≡ cond l.is_safe 1 0
@@ -87,13 +87,18 @@ pub unwound : (p : Parts) (e : Exc) (mode : Mode) (a b : Told) (old new : Progre
 unwound p e mode a b old new own is grows r =
     let none : instruction_due p old.state ≡ None = due_unwinds p old.state e is in
     let stands : step p old.state ≡ unwinds p old.state.frames e old.state.frames.calls = unwinding p old.state e is in
-    let back : unwinds p old.state.frames e old.state.frames.calls ≡ step p old.state = sym stands in
-    ((length a.seen, ran_elsewhere p a b old new (ap goes is) none grows
-        (r.state ∙ ap (λ (s : Step). s.after) back)
-        (r.printed ∙ sym (append-nil old.printed) ∙ ap (λ (l : List (List ℕ)). old.printed ++ l) (sym (unwinds_silent p old.state.frames e old.state.frames.calls)) ∙ ap (λ (s : Step). old.printed ++ s.printed) back)
-        r.disables r.steps
-        (subst (λ (s : Step). UnwindingHeard old.steps s.events a b old.records new.records) back r.heard)
-        (r.loads ∙ ap (λ (s : Step). a.tally.loads ++ loads 0 (after a.first a.seen).global s.events) back)), polled_no p old.state a b [] (ap polls_once none) grows)
+    let back : unwinds p old.state.frames e old.state.frames.calls ≡ step p old.state = sym stands in (
+      (
+        length a.seen,
+        ran_elsewhere p a b old new (ap goes is) none grows
+            (r.state ∙ ap (λ (s : Step). s.after) back)
+            (r.printed ∙ sym (append-nil old.printed) ∙ ap (λ (l : List (List ℕ)). old.printed ++ l) (sym (unwinds_silent p old.state.frames e old.state.frames.calls)) ∙ ap (λ (s : Step). old.printed ++ s.printed) back)
+            r.disables r.steps
+            (subst (λ (s : Step). UnwindingHeard old.steps s.events a b old.records new.records) back r.heard)
+            (r.loads ∙ ap (λ (s : Step). a.tally.loads ++ loads 0 (after a.first a.seen).global s.events) back),
+      ),
+      polled_no p old.state a b [] (ap polls_once none) grows,
+    )
 
 pub unwinding_stuck : (p : Parts) (e : Exc) (a : Told) (old new : Progress) → Owns a → unwinds p old.state.frames e old.state.frames.calls ≡ stuck old.state.frames
     → new ≡ record old { state = record { frames = old.state.frames; mode = Mode.Stuck }; steps = old.steps + 1 } → RanUnwinding p e a a old new

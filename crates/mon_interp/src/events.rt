@@ -35,12 +35,7 @@ fn offset_of(index: u32) -> Result<u32, AllocError>
 }
 
 // An event at a place, with a line or its offset.
-fn happens(
-    place: Place,
-    event: Event,
-    kind: Kind,
-    at: u32,
-) -> Result<Happening, AllocError>
+fn happens(place: Place, event: Event, kind: Kind, at: u32) -> Result<Happening, AllocError>
     ensures { IfOk result (λ h. h ≡ spec.happens event kind (standing place) at) }
 {
     Ok(Happening {

@@ -309,11 +309,7 @@ impl Machine {
 
     /// One instruction, whatever stands at the location of the innermost frame; false, where the thread is asked to stop
     /// before it.
-    fn run_step<H: Handle>(
-        &mut self,
-        program: &Program,
-        handle: &mut H,
-    ) -> Result<bool, AllocError>
+    fn run_step<H: Handle>(&mut self, program: &Program, handle: &mut H) -> Result<bool, AllocError>
         requires attached { IsTrue (H.told handle.old).attached }
         requires owns { Owns (H.told handle.old) }
         requires bases { map base_in (H.told handle.old).first.cells ≡ program.now.bases }
@@ -381,11 +377,7 @@ impl Machine {
     }
 
     /// One step, in a mode that goes on; false, where the thread is asked to stop before it.
-    fn one_step<H: Handle>(
-        &mut self,
-        program: &Program,
-        handle: &mut H,
-    ) -> Result<bool, AllocError>
+    fn one_step<H: Handle>(&mut self, program: &Program, handle: &mut H) -> Result<bool, AllocError>
         requires attached { IsTrue (H.told handle.old).attached }
         requires owns { Owns (H.told handle.old) }
         requires bases { map base_in (H.told handle.old).first.cells ≡ program.now.bases }

@@ -70,11 +70,7 @@ fn first_argument(stack: &Operands, count: usize) -> Option<&Value>
 }
 
 // One value, or none.
-fn show_value(
-    alloc: Global,
-    program: &Program,
-    value: Option<&Value>,
-) -> Result<Shows, AllocError>
+fn show_value(alloc: Global, program: &Program, value: Option<&Value>) -> Result<Shows, AllocError>
     ensures { IfOk result (λ shows. shown_in shows ≡ spec.of_value program.now (option_copied value.entry)) }
 {
     Ok(Shows {

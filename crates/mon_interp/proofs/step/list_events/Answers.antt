@@ -12,7 +12,7 @@ pub returns : goal.returns
 returns c = λ f is answered.
     let b = c.args.before.now in
     listed c.args.program.now c.args.op c.args.location.argument c.args.location.line f b (frames_move c.args.frames.now c.args.done.now) c.in_ok-to.to
-        c.push_line.new.events.items c.push_instruction.new.events.items c.push_main.new.events.items c.push_ancillary.new.events.items c.push_raise.new.events.items
-        is answered c.in_ok-to.ensures (search rules) c.in_ok-push_instruction.ensures
-        (c.in_ok-push_main.ensures ∙ ap (λ (e : Option Event). c.push_instruction.new.events.items ++ slot_events (in_main e (option_map (λ s. going c.in_ok-to.to (shown_in s)) b.shows)) b.place.location (standing b.place)) c.main_event-event.ensures)
-        c.in_ok-push_ancillary.ensures c.in_ok-push_raise.ensures
+    c.push_line.new.events.items c.push_instruction.new.events.items c.push_main.new.events.items c.push_ancillary.new.events.items c.push_raise.new.events.items
+    is answered c.in_ok-to.ensures (search rules) c.in_ok-push_instruction.ensures
+    (c.in_ok-push_main.ensures ∙ ap (λ (e : Option Event). c.push_instruction.new.events.items ++ slot_events (in_main e (option_map (λ s. going c.in_ok-to.to (shown_in s)) b.shows)) b.place.location (standing b.place)) c.main_event-event.ensures)
+    c.in_ok-push_ancillary.ensures c.in_ok-push_raise.ensures

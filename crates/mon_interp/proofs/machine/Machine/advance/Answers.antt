@@ -47,4 +47,4 @@ returns-then-not-done-clause-run g c =
     let mid = progress_of c.loop-turn.self in
     let new = progress_of c.one_step.new.self in
     going_asked p c.loop-turn._turn c.args.steps (g.H.Handle.told c.args.handle.now) b d (progress_of c.args.self.now) mid new c.loop-turn.invariant.going c.loop-turn-test.true (sym c.goes.ensures ∙ c.if-not-goes.false)
-        (subst (λ (x : Bool). StepOrStop x p b d mid new) c.if-not-done.true c.in_ok-done.ensures.step)
+    (subst (λ (x : Bool). StepOrStop x p b d mid new) c.if-not-done.true c.in_ok-done.ensures.step)

@@ -10,9 +10,9 @@ use Rattle.mon_interp.proofs.machine.Machine.load_step.Goals as goal
 pub returns-in-None-clause-step : goal.returns-in-None-clause-step
 returns-in-None-clause-step g c =
     ran_at c.args.program.now c.args.code.now c.args.location c.args.place c.load-word.result (g.H.Handle.told c.args.handle.now) (g.H.Handle.told c.load-word.new.self) (g.H.Handle.told c.load-word.new.self) (progress_of c.args.self.now) (progress_of c.get_stuck.new.self)
-        c.requires.stands c.requires.runs c.requires.owns c.load-word.ensures.told
-        (stuck_at c.args.program.now c.args.code.now c.args.location c.args.place c.load-word.result (g.H.Handle.told c.args.handle.now) (g.H.Handle.told c.load-word.new.self) (progress_of c.args.self.now) (progress_of c.get_stuck.new.self)
-        c.requires.stands c.requires.runs c.requires.bases c.requires.within c.load-word.ensures.told (c.in-None.ensures ∙ ap (λ (p : WordParts). op_of p.base) c.unpack.ensures) c.get_stuck.ensures)
+    c.requires.stands c.requires.runs c.requires.owns c.load-word.ensures.told
+    (stuck_at c.args.program.now c.args.code.now c.args.location c.args.place c.load-word.result (g.H.Handle.told c.args.handle.now) (g.H.Handle.told c.load-word.new.self) (progress_of c.args.self.now) (progress_of c.get_stuck.new.self)
+    c.requires.stands c.requires.runs c.requires.bases c.requires.within c.load-word.ensures.told (c.in-None.ensures ∙ ap (λ (p : WordParts). op_of p.base) c.unpack.ensures) c.get_stuck.ensures)
 
 pub returns-in-Some-clause-step : goal.returns-in-Some-clause-step
 returns-in-Some-clause-step g c =

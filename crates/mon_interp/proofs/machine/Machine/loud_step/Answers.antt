@@ -27,7 +27,7 @@ hear-requires-clause-here g c =
     let listed : c.as_slice.result.now ≡ instruction_events p c.args.op n b.place.location c.args.location.line f m =
     c.as_slice.ensures.value ∙ c.in_ok-events.ensures f (looked p c.args.op n c.args.number f f b c.in_ok-before.ensures refl) (answered_by p c.args.code.now c.args.op n (with_line c.args.location.line f) (with_frame c.args.self.now.frames (with_line c.args.location.line f)) m made) in
     subst (λ (es : List Happening). AreAt c.args.number es) (sym (listed ∙ ap (λ k. instruction_events p c.args.op n k c.args.location.line f m) c.in_ok-before.ensures.location_is))
-        (instruction_at p c.args.number f c.args.op n c.args.location.line m)
+    (instruction_at p c.args.number f c.args.op n c.args.location.line m)
 
 pub returns-clause-step : goal.returns-clause-step
 returns-clause-step g c = λ f top number.
@@ -45,6 +45,6 @@ returns-clause-step g c = λ f top number.
     c.as_slice.ensures.value ∙ c.in_ok-events.ensures f (looked p c.args.op n c.args.number f c.top-frame.result.now before c.in_ok-before.ensures same) (answered_by p c.args.code.now c.args.op n (with_line c.args.location.line f) (with_frame v (with_line c.args.location.line f)) m made)
     ∙ ap (λ k. instruction_events p c.args.op n k c.args.location.line f m) (c.in_ok-before.ensures.location_is ∙ number) in
     heard_loud p c.args.code.now c.args.op c.args.location f v m c.args.word a b (progress_of c.args.self.now) (progress_of _) es made
-        c.in_ok-go_on.ensures.after c.in_ok-go_on.ensures.printed (ap (λ n. n + 1) c.go_on.ensures.steps) listed
-        (heard_by c.args.self.now.steps c.go_on.new.self.steps es es a b c.args.self.now.records c.go_on.new.self.records c.hear.new.records c.args.self.now.disables c.go_on.new.self.disables c.hear.new.disables c.go_on.ensures.steps refl c.go_on.ensures.records.0 c.go_on.ensures.records.1 c.in_ok-hear.ensures.heard)
-        c.hear.ensures.loaded
+    c.in_ok-go_on.ensures.after c.in_ok-go_on.ensures.printed (ap (λ n. n + 1) c.go_on.ensures.steps) listed
+    (heard_by c.args.self.now.steps c.go_on.new.self.steps es es a b c.args.self.now.records c.go_on.new.self.records c.hear.new.records c.args.self.now.disables c.go_on.new.self.disables c.hear.new.disables c.go_on.ensures.steps refl c.go_on.ensures.records.0 c.go_on.ensures.records.1 c.in_ok-hear.ensures.heard)
+    c.hear.ensures.loaded

@@ -10,8 +10,8 @@ use Rattle.mon_interp.proofs.machine.Machine.poll_and_step.Goals as goal
 pub returns-then-poll_due-clause-step : goal.returns-then-poll_due-clause-step
 returns-then-poll_due-clause-step g c =
     polled_stop c.args.location.is_safe c.args.program.now (g.H.Handle.told c.args.handle.now) (g.H.Handle.told c.poll_due.new.handle) (progress_of c.args.self.now)
-        (unpolled c.args.program.now c.args.code.now c.args.location c.args.place (state_of c.args.self.now) c.requires.stands c.requires.runs)
-        (subst (λ (b : Bool). PolledDue c.args.location.is_safe b (g.H.Handle.told c.args.handle.now) (g.H.Handle.told c.poll_due.new.handle)) c.if-poll_due.true c.poll_due.ensures.polled)
+    (unpolled c.args.program.now c.args.code.now c.args.location c.args.place (state_of c.args.self.now) c.requires.stands c.requires.runs)
+    (subst (λ (b : Bool). PolledDue c.args.location.is_safe b (g.H.Handle.told c.args.handle.now) (g.H.Handle.told c.poll_due.new.handle)) c.if-poll_due.true c.poll_due.ensures.polled)
 
 pub returns-then-poll_due-clause-stays : goal.returns-then-poll_due-clause-stays
 returns-then-poll_due-clause-stays g c = (polled_keeps c.args.location.is_safe c.poll_due.result (g.H.Handle.told c.args.handle.now) (g.H.Handle.told c.poll_due.new.handle) c.requires.owns c.poll_due.ensures.polled).stays
@@ -35,9 +35,9 @@ load_step-requires-clause-within g c =
 pub returns-clause-step : goal.returns-clause-step
 returns-clause-step g c =
     polled_step c.args.location.is_safe c.args.program.now (g.H.Handle.told c.args.handle.now) (g.H.Handle.told c.poll_due.new.handle) (g.H.Handle.told c.load_step.new.handle) (progress_of c.args.self.now) (progress_of c.load_step.new.self) c.load_step.ensures.stays.0
-        (unpolled c.args.program.now c.args.code.now c.args.location c.args.place (state_of c.args.self.now) c.requires.stands c.requires.runs)
-        (subst (λ (b : Bool). PolledDue c.args.location.is_safe b (g.H.Handle.told c.args.handle.now) (g.H.Handle.told c.poll_due.new.handle)) c.if-poll_due.false c.poll_due.ensures.polled)
-        c.load_step.ensures.stays.1 c.in_ok-load_step.ensures.step
+    (unpolled c.args.program.now c.args.code.now c.args.location c.args.place (state_of c.args.self.now) c.requires.stands c.requires.runs)
+    (subst (λ (b : Bool). PolledDue c.args.location.is_safe b (g.H.Handle.told c.args.handle.now) (g.H.Handle.told c.poll_due.new.handle)) c.if-poll_due.false c.poll_due.ensures.polled)
+    c.load_step.ensures.stays.1 c.in_ok-load_step.ensures.step
 
 pub returns-clause-stays : goal.returns-clause-stays
 returns-clause-stays g c =

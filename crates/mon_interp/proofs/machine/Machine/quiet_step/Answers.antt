@@ -26,11 +26,11 @@ returns-then-instruct_in_place-clause-step g c = λ f top at number.
     let b = g.H.Handle.told c.retire_due.new.handle in
     let w = c.instruct_in_place.new.frames in
     heard_still c.args.program.now c.args.code.now c.args.op c.args.location f c.args.self.now.frames (moved w Ending.Continues) c.args.word c.args.place.location a b (progress_of c.args.self.now) (progress_of _) []
-        c.requires.loaded c.requires.quiet number (c.instruct_in_place.ensures.yes c.if-instruct_in_place.true f top)
-        (ap (λ (m : Mode). let s : State = record { frames = w; mode = m } in s) (sym c.requires.runs))
-        (sym (append-nil c.args.self.now.printed)) refl refl
-        (heard_none c.args.self.now.steps a b c.args.self.now.records c.args.self.now.disables c.retire_due.ensures.grows)
-        (c.retire_due.ensures.loaded ∙ sym (append-nil a.tally.loads) ∙ ap (λ (l : List Load). a.tally.loads ++ l) (sym (no_loads c.args.word (after a.first a.seen).global)))
+    c.requires.loaded c.requires.quiet number (c.instruct_in_place.ensures.yes c.if-instruct_in_place.true f top)
+    (ap (λ (m : Mode). let s : State = record { frames = w; mode = m } in s) (sym c.requires.runs))
+    (sym (append-nil c.args.self.now.printed)) refl refl
+    (heard_none c.args.self.now.steps a b c.args.self.now.records c.args.self.now.disables c.retire_due.ensures.grows)
+    (c.retire_due.ensures.loaded ∙ sym (append-nil a.tally.loads) ∙ ap (λ (l : List Load). a.tally.loads ++ l) (sym (no_loads c.args.word (after a.first a.seen).global)))
 
 pub returns-clause-step : goal.returns-clause-step
 returns-clause-step g c = λ f top at number.
@@ -40,15 +40,15 @@ returns-clause-step g c = λ f top at number.
     let same : c.as_slice.result.now ≡ es = c.as_slice.ensures.value in
     let none : c.new-events.result.items ≡ [] = search rules in
     heard_still c.args.program.now c.args.code.now c.args.op c.args.location f c.args.self.now.frames (frames_move c.perform.new.frames c.in_ok-done.done) c.args.word c.args.place.location a b (progress_of c.args.self.now) (progress_of _) es
-        c.requires.loaded c.requires.quiet number
-        (noted_effect c.args.program.now c.args.code.now c.args.op c.args.location f c.args.self.now.frames c.instruct_in_place.new.frames (frames_move c.perform.new.frames c.in_ok-done.done) top (c.instruct_in_place.ensures.no c.if-instruct_in_place.false f top) c.in_ok-done.ensures)
-        c.in_ok-go_on.ensures.after c.in_ok-go_on.ensures.printed (ap (λ n. n + 1) c.go_on.ensures.steps)
-        (c.in_ok-push_raise.ensures ∙ ap (λ (l : List Happening). l ++ raise_events c.args.program.now (standing c.args.place) c.in_ok-done.done.ending) none ∙ raise_at c.args.place f (record { code = at.code; index = at.index }) c.args.program.now c.in_ok-done.done.ending)
-        (heard_by c.args.self.now.steps c.go_on.new.self.steps es c.as_slice.result.now a b c.args.self.now.records c.go_on.new.self.records c.hear.new.records c.args.self.now.disables c.go_on.new.self.disables c.hear.new.disables c.go_on.ensures.steps same c.go_on.ensures.records.0 c.go_on.ensures.records.1 c.in_ok-hear.ensures.heard)
-        (c.hear.ensures.loaded ∙ ap (λ (l : List Happening). a.tally.loads ++ loads c.args.word (after a.first a.seen).global l) same)
+    c.requires.loaded c.requires.quiet number
+    (noted_effect c.args.program.now c.args.code.now c.args.op c.args.location f c.args.self.now.frames c.instruct_in_place.new.frames (frames_move c.perform.new.frames c.in_ok-done.done) top (c.instruct_in_place.ensures.no c.if-instruct_in_place.false f top) c.in_ok-done.ensures)
+    c.in_ok-go_on.ensures.after c.in_ok-go_on.ensures.printed (ap (λ n. n + 1) c.go_on.ensures.steps)
+    (c.in_ok-push_raise.ensures ∙ ap (λ (l : List Happening). l ++ raise_events c.args.program.now (standing c.args.place) c.in_ok-done.done.ending) none ∙ raise_at c.args.place f (record { code = at.code; index = at.index }) c.args.program.now c.in_ok-done.done.ending)
+    (heard_by c.args.self.now.steps c.go_on.new.self.steps es c.as_slice.result.now a b c.args.self.now.records c.go_on.new.self.records c.hear.new.records c.args.self.now.disables c.go_on.new.self.disables c.hear.new.disables c.go_on.ensures.steps same c.go_on.ensures.records.0 c.go_on.ensures.records.1 c.in_ok-hear.ensures.heard)
+    (c.hear.ensures.loaded ∙ ap (λ (l : List Happening). a.tally.loads ++ loads c.args.word (after a.first a.seen).global l) same)
 
 pub hear-requires-clause-here : goal.hear-requires-clause-here
 hear-requires-clause-here g c =
     let none : c.new-events.result.items ≡ [] = search rules in
     subst (λ (es : List Happening). AreAt c.args.place.location es) (sym (c.as_slice.ensures.value ∙ c.in_ok-push_raise.ensures ∙ ap (λ (l : List Happening). l ++ raise_events c.args.program.now (standing c.args.place) c.in_ok-done.done.ending) none))
-        (global_at c.args.place.location (raise_events c.args.program.now (standing c.args.place) c.in_ok-done.done.ending) (raise_all_global c.args.program.now (standing c.args.place) c.in_ok-done.done.ending))
+    (global_at c.args.place.location (raise_events c.args.program.now (standing c.args.place) c.in_ok-done.done.ending) (raise_all_global c.args.program.now (standing c.args.place) c.in_ok-done.done.ending))

@@ -16,7 +16,7 @@ pub returns-then-depth-eq0-clause-step : goal.returns-then-depth-eq0-clause-step
 returns-then-depth-eq0-clause-step g c =
     let none = sym c.depth.ensures.count ∙ c.if-depth-eq0.true in
     nowhere c.args.program.now (g.H.Handle.told c.args.handle.now) (progress_of c.args.self.now) (progress_of c.get_stuck.new.self) c.requires.owns c.requires.runs
-        (due_no_frame c.args.program.now (state_of c.args.self.now) c.requires.runs none) (no_frame c.args.program.now (state_of c.args.self.now) c.requires.runs none) c.get_stuck.ensures
+    (due_no_frame c.args.program.now (state_of c.args.self.now) c.requires.runs none) (no_frame c.args.program.now (state_of c.args.self.now) c.requires.runs none) c.get_stuck.ensures
 
 pub returns-then-depth-eq0-clause-stays : goal.returns-then-depth-eq0-clause-stays
 returns-then-depth-eq0-clause-stays g c = stays_refl (g.H.Handle.told c.args.handle.now)
@@ -24,8 +24,8 @@ returns-then-depth-eq0-clause-stays g c = stays_refl (g.H.Handle.told c.args.han
 pub returns-in-None-clause-step : goal.returns-in-None-clause-step
 returns-in-None-clause-step g c =
     nowhere c.args.program.now (g.H.Handle.told c.args.handle.now) (progress_of c.args.self.now) (progress_of c.get_stuck-in-None.new.self) c.requires.owns c.requires.runs
-        (due_no_code c.args.program.now (state_of c.args.self.now) c.top-frame.result.now c.requires.runs c.top-frame.ensures c.in-None.ensures.value)
-        (no_code c.args.program.now (state_of c.args.self.now) c.top-frame.result.now c.requires.runs c.top-frame.ensures c.in-None.ensures.value) c.get_stuck-in-None.ensures
+    (due_no_code c.args.program.now (state_of c.args.self.now) c.top-frame.result.now c.requires.runs c.top-frame.ensures c.in-None.ensures.value)
+    (no_code c.args.program.now (state_of c.args.self.now) c.top-frame.result.now c.requires.runs c.top-frame.ensures c.in-None.ensures.value) c.get_stuck-in-None.ensures
 
 pub returns-in-None-clause-stays : goal.returns-in-None-clause-stays
 returns-in-None-clause-stays g c = stays_refl (g.H.Handle.told c.args.handle.now)
@@ -33,8 +33,8 @@ returns-in-None-clause-stays g c = stays_refl (g.H.Handle.told c.args.handle.now
 pub returns-in-None-get-clause-step : goal.returns-in-None-get-clause-step
 returns-in-None-get-clause-step g c =
     nowhere c.args.program.now (g.H.Handle.told c.args.handle.now) (progress_of c.args.self.now) (progress_of c.get_stuck-in-None-get.new.self) c.requires.owns c.requires.runs
-        (due_no_location c.args.program.now (state_of c.args.self.now) c.top-frame.result.now c.in-Some.code.now c.requires.runs c.top-frame.ensures c.in-Some.ensures.value c.in-None-get.ensures.value)
-        (no_location c.args.program.now (state_of c.args.self.now) c.top-frame.result.now c.in-Some.code.now c.requires.runs c.top-frame.ensures c.in-Some.ensures.value c.in-None-get.ensures.value) c.get_stuck-in-None-get.ensures
+    (due_no_location c.args.program.now (state_of c.args.self.now) c.top-frame.result.now c.in-Some.code.now c.requires.runs c.top-frame.ensures c.in-Some.ensures.value c.in-None-get.ensures.value)
+    (no_location c.args.program.now (state_of c.args.self.now) c.top-frame.result.now c.in-Some.code.now c.requires.runs c.top-frame.ensures c.in-Some.ensures.value c.in-None-get.ensures.value) c.get_stuck-in-None-get.ensures
 
 pub returns-in-None-get-clause-stays : goal.returns-in-None-get-clause-stays
 returns-in-None-get-clause-stays g c = stays_refl (g.H.Handle.told c.args.handle.now)
