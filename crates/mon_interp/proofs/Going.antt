@@ -3,7 +3,7 @@ use Rattle.std.proofs.Common.{◌≡◌, ℕ, ◌+◌, ◌<◌, ◌≤◌, nat_l
 use Rattle.std.specs.Prelude.{None}
 use Rattle.std.proofs.lemmas.Bool.Decides.{nat_tests}
 use Rattle.mon_code.specs.Programs.{Parts}
-use Rattle.mon_words.specs.Told.{Told, Polls}
+use Rattle.mon_words.specs.Told.{Told}
 use Rattle.mon_words.specs.declared.history.Mark.{Mark}
 use Rattle.mon_machine.specs.declared.mode.Mode.{Mode}
 use Rattle.mon_machine.specs.State.{State, goes}

@@ -1,22 +1,20 @@
 -- A step that was done and heard is one of an advance.
-use Rattle.std.proofs.Common.{◌≡◌, ℕ, ◌+◌, ◌<◌, Bool, true, false, ◌||◌, cond, IsTrue, List, [], ◌∷◌, ◌++◌, length, take, Option, Some, None, refl, sym, ap, ◌∙◌, subst, arith, append-nil, append_assoc}
+use Rattle.std.proofs.Common.{◌≡◌, ℕ, ◌+◌, ◌<◌, Bool, true, false, ◌||◌, cond, List, [], ◌∷◌, ◌++◌, length, take, Option, Some, None, refl, sym, ap, ◌∙◌, subst, arith, append-nil, append_assoc}
 use Rattle.std.specs.Prelude.{◌==◌, if◌then◌else◌}
 use Rattle.std.specs.List.{AllByRecursion}
 use Rattle.mon_events.specs.declared.event.Event.{Event}
 use Rattle.mon_events.specs.declared.event.Slot.{Slot}
 use Rattle.mon_events.specs.declared.op.Op.{Op}
-use Rattle.mon_events.specs.Events.{rank}
 use Rattle.mon_code.specs.declared.program.Code.{Code}
 use Rattle.mon_code.specs.declared.program.Location.{Location}
 use Rattle.mon_code.specs.Programs.{Parts}
-use Rattle.mon_words.specs.Words.{cell_of, is_enabled, is_wanted, Quiet}
+use Rattle.mon_words.specs.Words.{cell_of, is_enabled, Quiet}
 use Rattle.mon_words.specs.History.{after, cell_at, offs}
 use Rattle.mon_words.proofs.Growing.{grows_refl}
 use Rattle.std.proofs.Math.Seq.{take-length}
 use Rattle.mon_words.specs.Told.{Told, Grows, Loads, Owns}
 use Rattle.mon_words.specs.declared.tally.Load.{Load}
 use Rattle.mon_words.specs.declared.history.Board.{Board}
-use Rattle.mon_words.specs.declared.history.Mark.{Mark}
 use Rattle.mon_frames.specs.declared.frame.Frame.{Frame}
 use Rattle.mon_frames.specs.Views.{FramesView}
 use Rattle.mon_recorders.specs.declared.happening.Happening.{Happening}
@@ -24,10 +22,10 @@ use Rattle.mon_recorders.specs.declared.happening.Kind.{Kind}
 use Rattle.mon_recorders.specs.declared.happening.Kind.TheVariants.{Local, Global, Ancillary}
 use Rattle.mon_recorders.specs.declared.record.Record.{Record}
 use Rattle.mon_recorders.specs.declared.record.Disabled.{Disabled}
-use Rattle.mon_recorders.specs.Happenings.{is_global_kind, for_tools, records_in, disables_in}
-use Rattle.mon_recorders.specs.Boards.{let_through, is_enabled_by, IsReadBy, AreReadBy, AreAt, IsAt}
+use Rattle.mon_recorders.specs.Happenings.{is_global_kind, records_in, disables_in}
+use Rattle.mon_recorders.specs.Boards.{let_through, is_enabled_by, IsReadBy, AreReadBy, AreAt}
 use Rattle.mon_recorders.proofs.Folds.{for_tools_same, for_tools_never}
-use Rattle.mon_hear.specs.Words.{loads, globals, any_global, any_enabled, callback_loads, global_load}
+use Rattle.mon_hear.specs.Words.{loads, globals, any_global, any_enabled}
 use Rattle.mon_hear.specs.Hearing.{Heard, UnwindingHeard, AreGlobal}
 use Rattle.mon_hear.proofs.Steps.{all_read, one_step, whole, word_read}
 use Rattle.mon_hear.proofs.Passing.{heard_quiet, global_read}

@@ -1,5 +1,5 @@
 -- The events of a step, by the place of its instruction.
-use Rattle.std.proofs.Common.{◌≡◌, ℕ, ◌*◌, ◌+◌, Bool, true, false, ◌⊎◌, inl, inr, List, [], ◌∷◌, ◌++◌, Option, Some, None, refl, sym, ap, ◌∙◌, subst, append_assoc}
+use Rattle.std.proofs.Common.{◌≡◌, ℕ, ◌*◌, Bool, true, false, inl, inr, List, [], ◌∷◌, ◌++◌, Option, Some, None, refl, ap, ◌∙◌, subst, append_assoc}
 use Rattle.std.specs.Prelude.{◌==◌, if◌then◌else◌, option_map, slice_get}
 use Rattle.mon_values.specs.declared.value.Exc.{Exc}
 use Rattle.mon_values.specs.declared.value.Value.{Value, Exc as Raised-value}
@@ -21,7 +21,7 @@ use Rattle.mon_recorders.specs.declared.happening.Kind.{Kind}
 use Rattle.mon_recorders.specs.declared.happening.Kind.TheVariants.{Local, Global, Ancillary}
 use Rattle.mon_machine.specs.declared.mode.Ending.{Ending}
 use Rattle.mon_machine.specs.State.{Move}
-use Rattle.mon_machine.specs.Events.{Shown, SlotEvent, happens, showing, offset, nothing, of_call, of_value, index_in, shown, stopped, stopped_at, in_main, local_event, line_events, slot_events, ancillary_events, of_exception, raise_events, instruction_events}
+use Rattle.mon_machine.specs.Events.{Shown, SlotEvent, happens, showing, offset, of_call, of_value, index_in, shown, stopped, stopped_at, in_main, local_event, line_events, slot_events, ancillary_events, of_exception, raise_events, instruction_events}
 use Rattle.mon_interp.specs.declared.events.Place.{Place}
 use Rattle.mon_interp.specs.declared.shows.Shows.{Shows}
 use Rattle.mon_interp.specs.declared.step.Before.{Before}

@@ -1,5 +1,5 @@
 -- Operands, which stand with their top last.
-use Rattle.std.proofs.Common.{◌≡◌, ℕ, suc, ◌-◌, ◌<◌, ◌≤◌, List, [], ◌∷◌, length, take, get_or, reverse, min, sym, ap, ◌∙◌, arith}
+use Rattle.std.proofs.Common.{◌≡◌, ℕ, ◌-◌, ◌<◌, List, [], ◌∷◌, length, take, get_or, reverse, min, sym, ap, ◌∙◌, arith}
 use Rattle.std.specs.Prelude.{slice_get, Some, None}
 use Rattle.std.proofs.lemmas.List.{get_or-reverse, length-reverse, get_or-take, length-take}
 use Rattle.std.proofs.lemmas.Option.{slice_get-get_or, slice_get_past}

@@ -1,5 +1,5 @@
 -- A step where the innermost frame stands at a location.
-use Rattle.std.proofs.Common.{◌≡◌, ℕ, ◌+◌, ◌<◌, Bool, true, false, cond, List, [], ◌++◌, length, map, refl, sym, ap, ◌∙◌, subst, Option, Some, None, append-nil}
+use Rattle.std.proofs.Common.{◌≡◌, ℕ, ◌+◌, ◌<◌, Bool, true, false, cond, List, [], ◌++◌, length, map, refl, sym, ap, ◌∙◌, subst, Some, None, append-nil}
 use Rattle.mon_values.specs.declared.value.Exc.{Exc}
 use Rattle.mon_words.specs.declared.tally.Load.{Load}
 use Rattle.mon_words.proofs.Growing.{grows_refl}
@@ -13,9 +13,8 @@ use Rattle.mon_code.specs.declared.program.Location.{Location}
 use Rattle.mon_code.specs.Programs.{Parts}
 use Rattle.mon_words.specs.Words.{cell_of}
 use Rattle.mon_words.specs.History.{after, cell_at, base_in}
-use Rattle.mon_words.specs.Told.{Told, Grows, Loads, Owns, Polls}
+use Rattle.mon_words.specs.Told.{Told, Grows, Loads, Owns}
 use Rattle.mon_words.specs.declared.history.Mark.{Mark}
-use Rattle.mon_frames.specs.declared.frame.Frame.{Frame}
 use Rattle.mon_machine.specs.declared.mode.Mode.{Mode}
 use Rattle.mon_machine.specs.declared.mode.Mode.TheVariants.{Run}
 use Rattle.mon_machine.specs.State.{State, goes}

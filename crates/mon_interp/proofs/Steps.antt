@@ -1,5 +1,5 @@
 -- One step of a thread, by what stands at the location of its innermost frame.
-use Rattle.std.proofs.Common.{◌≡◌, ℕ, ◌+◌, ◌<◌, List, [], ◌∷◌, ◌++◌, length, map, refl, sym, ap, ◌∙◌, subst, Bool, false, append-nil, arith}
+use Rattle.std.proofs.Common.{◌≡◌, ℕ, ◌+◌, ◌<◌, List, [], ◌∷◌, length, map, refl, sym, ap, ◌∙◌, false, arith}
 use Rattle.std.specs.Prelude.{Option, Some, None, slice_get}
 use Rattle.std.proofs.lemmas.Option.{slice_get-get_or, slice_get-map}
 use Rattle.mon_events.specs.declared.op.Op.{Op}
@@ -24,8 +24,8 @@ use Rattle.mon_values.specs.declared.value.Exc.{Exc}
 use Rattle.mon_machine.specs.State.{State}
 use Rattle.mon_words.specs.Told.{Told, Grows, Polls}
 use Rattle.mon_words.specs.declared.history.Mark.{Mark}
-use Rattle.mon_machine.specs.Advances.{Due, due_at, due_in, due_in_top, due_in_mode, instruction_due, polls_once, PolledOnce}
-use Rattle.mon_machine.specs.Step.{Step, step, in_mode, in_code, at_location, runs_top, executed, unwinds, unwinds_from, goes_out, stuck}
+use Rattle.mon_machine.specs.Advances.{due_at, due_in, due_in_top, due_in_mode, instruction_due, polls_once, PolledOnce}
+use Rattle.mon_machine.specs.Step.{step, in_mode, in_code, at_location, runs_top, executed, unwinds, unwinds_from, goes_out, stuck}
 
 runs : (p : Parts) (s : State) → s.mode ≡ Run → step p s ≡ runs_top p s.frames s.frames.calls
 unfolding step

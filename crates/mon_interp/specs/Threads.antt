@@ -1,5 +1,5 @@
 -- Threads: how they begin, and what is due to a call of a function by its name.
-use Rattle.std.specs.Prelude.{◌≡◌, ℕ, ◌==◌, Bool, false, cond, List, [], length, Option, Some, None, Result, Ok, Err, slice_get, if◌then◌else◌}
+use Rattle.std.specs.Prelude.{◌≡◌, ℕ, ◌==◌, Bool, false, cond, List, length, Option, Some, None, Result, Ok, Err, slice_get, if◌then◌else◌}
 use Rattle.mon_values.specs.declared.value.Value.{Value}
 use Rattle.mon_code.specs.declared.program.Code.{Code}
 use Rattle.mon_code.specs.Programs.{Parts, code_named}

@@ -1,9 +1,9 @@
-use Rattle.std.proofs.Common.{◌≡◌, ◌∙◌, Bool, true, false, refl, sym, ap, subst, arith, map}
+use Rattle.std.proofs.Common.{◌∙◌, Bool, refl, sym, ap, subst, arith, map}
 use Rattle.mon_words.specs.History.{base_in}
 use Rattle.mon_words.specs.Told.{Told}
 use Rattle.mon_words.specs.declared.history.Board.{Board}
 use Rattle.mon_interp.specs.Machines.{progress_of, StepOrStop}
-use Rattle.mon_interp.proofs.Going.{going_none, going_more, going_last, going_asked, stops_asked, stops_ended, stops_spent}
+use Rattle.mon_interp.proofs.Going.{going_none, going_more, going_asked}
 use Rattle.mon_interp.proofs.machine.Machine.advance.Goals as goal
 
 pub loop-turn-init : goal.loop-turn-init

@@ -1,11 +1,9 @@
-use Rattle.std.proofs.Common.{◌≡◌, ◌+◌, ◌++◌, ℕ, List, refl, sym, ap, ◌∙◌, subst}
+use Rattle.std.proofs.Common.{◌≡◌, ◌+◌, ℕ, List, refl, sym, ap, ◌∙◌, subst}
 use Rattle.std.proofs.lemmas.Option.{same_Some}
-use Rattle.mon_words.specs.History.{after}
 use Rattle.mon_frames.specs.declared.frame.Frame.{Frame}
 use Rattle.mon_frames.specs.Views.{FramesView}
 use Rattle.mon_recorders.specs.declared.happening.Happening.{Happening}
 use Rattle.mon_recorders.specs.Boards.{AreAt}
-use Rattle.mon_hear.specs.Words.{loads}
 use Rattle.mon_machine.specs.State.{Move, with_frame}
 use Rattle.mon_machine.specs.Events.{instruction_events}
 use Rattle.mon_machine.specs.Step.{with_line}

@@ -1,10 +1,9 @@
-use Rattle.std.proofs.Common.{◌≡◌, ◌<◌, ℕ, List, length, map, sym, ap, ◌∙◌, subst, Bool}
+use Rattle.std.proofs.Common.{◌<◌, length, map, sym, ap, ◌∙◌, subst, Bool}
 use Rattle.mon_words.specs.History.{base_in}
-use Rattle.mon_words.specs.Told.{Told}
 use Rattle.mon_words.specs.declared.history.Board.{Board}
 use Rattle.mon_machine.proofs.Advancing.{stays_trans, stays_grows}
 use Rattle.mon_interp.specs.Machines.{progress_of, state_of, PolledDue}
-use Rattle.mon_interp.proofs.Placed.{Kept, polled_keeps, polled_step, polled_stop, unpolled}
+use Rattle.mon_interp.proofs.Placed.{polled_keeps, polled_step, polled_stop, unpolled}
 use Rattle.mon_interp.proofs.machine.Machine.poll_and_step.Goals as goal
 
 pub returns-then-poll_due-clause-step : goal.returns-then-poll_due-clause-step

@@ -1,4 +1,4 @@
-use Rattle.std.proofs.Common.{rules, ◌≡◌, ◌+◌, ◌++◌, ℕ, List, [], refl, sym, ap, ◌∙◌, subst, append-nil}
+use Rattle.std.proofs.Common.{rules, ◌≡◌, ◌+◌, ◌++◌, List, [], refl, sym, ap, ◌∙◌, subst, append-nil}
 use Rattle.mon_words.specs.History.{after}
 use Rattle.mon_words.specs.declared.tally.Load.{Load}
 use Rattle.mon_recorders.specs.declared.happening.Happening.{Happening}
@@ -9,7 +9,7 @@ use Rattle.mon_machine.specs.Events.{raise_events}
 use Rattle.mon_interp.specs.Places.{standing}
 use Rattle.mon_machine.specs.declared.mode.Mode.{Mode}
 use Rattle.mon_machine.specs.declared.mode.Ending.{Ending}
-use Rattle.mon_machine.specs.State.{State, Move, moved}
+use Rattle.mon_machine.specs.State.{State, moved}
 use Rattle.mon_interp.specs.Machines.{progress_of}
 use Rattle.mon_interp.specs.Moving.{frames_move}
 use Rattle.mon_interp.proofs.Instructing.{noted_stands, noted_effect}

@@ -1,12 +1,10 @@
 use Rattle.std.proofs.Common.{rules, ◌≡◌, ◌++◌, List, [], ap, sym, ◌∙◌, refl, subst}
-use Rattle.mon_words.specs.History.{after}
 use Rattle.mon_recorders.specs.declared.happening.Happening.{Happening}
 use Rattle.mon_hear.specs.Hearing.{AreGlobal}
-use Rattle.mon_hear.specs.Words.{loads}
 use Rattle.mon_machine.specs.declared.mode.Mode.{Mode}
 use Rattle.mon_machine.specs.State.{State}
 use Rattle.mon_machine.specs.Step.{unwinds}
-use Rattle.mon_interp.specs.Machines.{progress_of, state_of}
+use Rattle.mon_interp.specs.Machines.{progress_of}
 use Rattle.mon_interp.proofs.Steps.{no_unwinds}
 use Rattle.mon_interp.proofs.Hearing.{unwinding_global}
 use Rattle.mon_interp.proofs.Placed.{unwinding_stuck, unwinding_heard}

@@ -1,5 +1,5 @@
 use Rattle.std.proofs.Common.{◌≡◌, ap, ◌∙◌}
-use Rattle.mon_machine.specs.Advances.{Progress, Advanced, plain_after}
+use Rattle.mon_machine.specs.Advances.{Progress, plain_after}
 use Rattle.mon_machine.proofs.BareAdvances.{bare_whole}
 use Rattle.mon_interp.specs.Machines.{progress_of}
 use Rattle.mon_interp.specs.Threads.{ThreadView}
