@@ -72,7 +72,7 @@ fn lines(alloc: Global) -> Result<Items<Happening>, AllocError>
 
 // A board of one location, whose words these are.
 fn board(alloc: Global, words: &[u64]) -> Result<PlainBoard, BoardFault>
-    requires { IsFirst words.now }
+    requires first { IsFirst words.now }
     requires one { length words.now ≡ 8 }
     ensures threads { IfOk result (λ b. b.threads ≡ 1) }
     ensures running { IfOk result (λ b. IsRunning b.chair.me.0) }
@@ -82,7 +82,7 @@ fn board(alloc: Global, words: &[u64]) -> Result<PlainBoard, BoardFault>
 }
 
 // Hears step 5 at location 0.
-fn heard<H: Handle>(
+fn hear_at_first<H: Handle>(
     alloc: Global,
     handle: &mut H,
     events: &[Happening],
@@ -104,7 +104,7 @@ fn heard<H: Handle>(
 }
 
 // The same over a board.
-fn heard_over(
+fn hear_over(
     alloc: Global,
     board: &mut PlainBoard,
     events: &[Happening],
@@ -118,7 +118,7 @@ fn heard_over(
     let Ok(()) = handle.try_enter() else {
         unreachable!()
     };
-    heard(alloc, &mut handle, events)
+    hear_at_first(alloc, &mut handle, events)
 }
 
 // Whether the records are of these tools and events, in this order.
@@ -159,7 +159,7 @@ fn six_tools_hear_a_call_in_turn(rt: HostRuntime) {
         panic!(rt; "no memory")
     };
     let events = calls(alloc).expect(&rt, "memory");
-    let heard = heard_over(alloc, &mut board, events.as_slice()).expect(&rt, "memory");
+    let heard = hear_over(alloc, &mut board, events.as_slice()).expect(&rt, "memory");
     let call = Event::Call;
     let want = [
         (0, call),
@@ -203,7 +203,7 @@ fn lines_are_heard_before_instructions(rt: HostRuntime) {
         panic!(rt; "no memory")
     };
     let events = lines(alloc).expect(&rt, "memory");
-    let heard = heard_over(alloc, &mut board, events.as_slice()).expect(&rt, "memory");
+    let heard = hear_over(alloc, &mut board, events.as_slice()).expect(&rt, "memory");
     let want = [
         (0, Event::Line),
         (5, Event::Line),
@@ -222,7 +222,7 @@ fn a_word_that_enables_nothing_is_retired(rt: HostRuntime) {
         panic!(rt; "no memory")
     };
     let events = lines(alloc).expect(&rt, "memory");
-    let heard = heard_over(alloc, &mut board, events.as_slice()).expect(&rt, "memory");
+    let heard = hear_over(alloc, &mut board, events.as_slice()).expect(&rt, "memory");
     assert!(rt; heard.records.is_empty() && heard.disables.is_empty());
     assert_eq!(rt; heard.word, 0xffff_fe00_0001_1515);
     assert!(rt; !asks(heard.word, 0) && asks(heard.word, 1));
