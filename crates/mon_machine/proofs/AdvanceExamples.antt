@@ -1,5 +1,5 @@
 -- The definitions give what they should.
-use Rattle.std.proofs.Common.{◌≡◌, ℕ, zero, suc, ◌<◌, false, true, List, [], ◌∷◌, take, get_or, refl, arith}
+use Rattle.std.proofs.Common.{◌≡◌, ℕ, zero, suc, ◌<◌, List, [], ◌∷◌, take, get_or, refl, arith}
 use Rattle.mon_recorders.specs.Happenings.{for_tools}
 use Rattle.mon_recorders.specs.Readings.{in_turn, entries_by}
 use Rattle.mon_recorders.specs.Boards.{reader}

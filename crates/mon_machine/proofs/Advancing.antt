@@ -1,11 +1,11 @@
 -- Advances, step by step.
-use Rattle.std.proofs.Common.{◌≡◌, ℕ, zero, suc, ◌+◌, ◌<◌, ◌≤◌, Bool, true, false, cond, List, [], ◌∷◌, ◌++◌, length, take, get_or, refl, sym, ap, subst, ◌∙◌, arith, append_assoc, append-nil, length-append, add-one}
-use Rattle.std.specs.Prelude.{nat_lt, Option, Some, None, Result}
+use Rattle.std.proofs.Common.{◌≡◌, ℕ, zero, suc, ◌+◌, ◌<◌, ◌≤◌, Bool, true, false, List, [], ◌∷◌, ◌++◌, length, take, get_or, refl, sym, ap, subst, ◌∙◌, arith, append_assoc, append-nil, length-append, add-one}
+use Rattle.std.specs.Prelude.{nat_lt, None, Result}
 use Rattle.std.proofs.lemmas.List.{take-append-le}
 use Rattle.std.proofs.lemmas.Bool.Decides.{nat_tests}
 use Rattle.mon_code.specs.Programs.{Parts}
-use Rattle.mon_words.specs.History.{after, offs, puts, Begins}
-use Rattle.mon_words.specs.Tallies.{polled_once, location_loads}
+use Rattle.mon_words.specs.History.{after, offs, puts}
+use Rattle.mon_words.specs.Tallies.{polled_once}
 use Rattle.mon_words.specs.Told.{Told, Owns, Grows, Polls, Leaves, Enters, Continues}
 use Rattle.mon_words.specs.declared.handle.WorldStopped.{WorldStopped}
 use Rattle.mon_words.specs.declared.history.Board.{Board}
@@ -17,7 +17,7 @@ use Rattle.mon_words.proofs.Continuing.{continues_stay}
 use Rattle.mon_recorders.specs.declared.happening.Happening.{Happening}
 use Rattle.mon_recorders.specs.declared.record.Record.{Record}
 use Rattle.mon_recorders.specs.declared.record.Disabled.{Disabled}
-use Rattle.mon_recorders.specs.Readings.{in_turn, Between, Span, OneStep, entries_by}
+use Rattle.mon_recorders.specs.Readings.{Between, Span, OneStep, entries_by}
 use Rattle.mon_recorders.specs.Boards.{reader}
 use Rattle.mon_recorders.proofs.Spans.{in_turn_none, turn_more, turn_join, get_front, get_last, get_back, between_get, span_none, span_more, span_append}
 use Rattle.mon_machine.specs.State.{State, goes}

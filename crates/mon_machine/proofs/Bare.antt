@@ -1,29 +1,17 @@
 -- A board on which nothing is wanted, and disables.
-use Rattle.std.proofs.Common.{◌≡◌, ◌⊎◌, inl, inr, ℕ, zero, suc, ◌+◌, ◌-◌, ◌^◌, ◌%◌, ◌≤◌, ◌==◌, Bool, true, false, ◌&&◌, List, [], ◌∷◌, ◌++◌, length, take, get_or, set, refl, sym, ap, subst, ◌∙◌, arith, append-nil}
+use Rattle.std.proofs.Common.{◌≡◌, ℕ, zero, suc, ◌+◌, ◌-◌, ◌^◌, ◌%◌, ◌≤◌, ◌==◌, Bool, false, ◌&&◌, List, [], ◌∷◌, ◌++◌, length, take, get_or, set, refl, sym, ap, subst, ◌∙◌, arith, append-nil}
 use Rattle.std.proofs.Math.Nat.{zero-div}
 use Rattle.std.proofs.Math.Seq.{take-append-add}
 use Rattle.std.proofs.lemmas.List.{append_cancel_left}
 use Rattle.mon_events.specs.declared.event.Slot.{Slot}
 use Rattle.mon_events.specs.Events.{place}
-use Rattle.mon_code.specs.Programs.{Parts}
 use Rattle.mon_words.specs.Words.{is_bit, is_enabled, clear}
-use Rattle.mon_words.specs.History.{no_cell, cell_at, clear_at, after, puts, Begins}
+use Rattle.mon_words.specs.History.{no_cell, cell_at, clear_at, after, puts}
 use Rattle.mon_words.specs.declared.history.Board.{Board}
 use Rattle.mon_words.specs.declared.history.Cell.{Cell}
 use Rattle.mon_words.specs.declared.history.Mark.{Mark}
 use Rattle.mon_words.specs.declared.history.Mark.TheVariants.{Off, Put}
-use Rattle.mon_recorders.specs.declared.record.Record.{Record}
-use Rattle.mon_recorders.specs.declared.happening.Happening.{Happening}
-use Rattle.mon_recorders.specs.declared.happening.Kind.{Kind}
-use Rattle.mon_recorders.specs.declared.happening.Kind.TheVariants.{Local, Global, Ancillary}
-use Rattle.mon_recorders.specs.Happenings.{record_of}
-use Rattle.mon_recorders.specs.Readings.{Between}
-use Rattle.mon_recorders.proofs.Folds.{for_tools_never}
-use Rattle.mon_machine.specs.State.{State, goes}
-use Rattle.mon_machine.specs.Step.{step}
 use Rattle.mon_machine.specs.Bare.{IsBare}
-use Rattle.mon_machine.proofs.Runs.{steps_done_goes, steps_done_all, after_steps_all}
-use Rattle.mon_machine.proofs.Printed.{printed_done}
 
 -- ---- a disable wants nothing
 

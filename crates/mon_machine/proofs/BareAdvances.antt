@@ -5,7 +5,7 @@ use Rattle.mon_events.specs.Events.{rank}
 use Rattle.mon_events.specs.declared.event.Event.{Event}
 use Rattle.mon_events.specs.declared.event.Slot.{Slot}
 use Rattle.mon_code.specs.Programs.{Parts}
-use Rattle.mon_words.specs.Words.{is_wanted, is_called, is_once}
+use Rattle.mon_words.specs.Words.{is_wanted, is_called}
 use Rattle.mon_words.specs.History.{after, cell_at}
 use Rattle.mon_words.specs.Told.{Told}
 use Rattle.mon_words.specs.declared.history.Board.{Board}
@@ -15,7 +15,7 @@ use Rattle.mon_recorders.specs.declared.happening.Kind.{Kind}
 use Rattle.mon_recorders.specs.declared.happening.Kind.TheVariants.{Local, Global, Ancillary}
 use Rattle.mon_recorders.specs.declared.record.Record.{Record}
 use Rattle.mon_recorders.specs.declared.record.Disabled.{Disabled}
-use Rattle.mon_recorders.specs.Happenings.{delivered, answers, record_of, disabled_of}
+use Rattle.mon_recorders.specs.Happenings.{delivered, answers}
 use Rattle.mon_recorders.specs.Readings.{in_turn, Between}
 use Rattle.mon_recorders.specs.Boards.{is_enabled_by, let_through}
 use Rattle.mon_recorders.proofs.Folds.{for_tools_never}

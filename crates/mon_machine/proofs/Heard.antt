@@ -1,40 +1,22 @@
 -- What is heard of a step.
-use Rattle.std.proofs.Common.{◌≡◌, ◌≢◌, ℕ, zero, suc, ◌+◌, ◌^◌, ◌<◌, ◌==◌, Bool, true, false, ◌&&◌, List, [], ◌∷◌, ◌++◌, length, take, refl, sym, ap, subst, ◌∙◌, arith, add-one, append_assoc, append-nil}
-use Rattle.std.specs.Prelude.{if◌then◌else◌, Option, Some, None}
+use Rattle.std.proofs.Common.{◌≡◌, ◌≢◌, ℕ, zero, suc, ◌+◌, ◌^◌, ◌<◌, ◌==◌, Bool, true, false, ◌&&◌, List, [], ◌∷◌, ◌++◌, refl, sym, ap, subst, ◌∙◌, arith, add-one, append_assoc}
+use Rattle.std.specs.Prelude.{if◌then◌else◌}
 use Rattle.std.specs.List.{AllByRecursion}
 use Rattle.std.specs.Int.{bit_at}
 use Rattle.std.proofs.lemmas.Nat.Bits.{bit_at-pow_same, bit_at-pow_other, bit_at_ones}
 use Rattle.std.proofs.lemmas.Bool.Decides.{nat_tests}
 use Rattle.mon_events.specs.declared.event.Slot.{Slot}
 use Rattle.mon_events.specs.Events.{place}
-use Rattle.mon_code.specs.declared.program.Code.{Code}
 use Rattle.mon_code.specs.declared.program.Location.{Location}
 use Rattle.mon_code.specs.Programs.{Parts}
 use Rattle.mon_words.specs.Words.{is_bit, is_enabled}
-use Rattle.mon_words.specs.History.{after, cell_at}
+use Rattle.mon_words.specs.History.{cell_at}
 use Rattle.mon_words.specs.declared.history.Board.{Board}
 use Rattle.mon_recorders.specs.declared.record.Record.{Record}
 use Rattle.mon_recorders.specs.declared.happening.Happening.{Happening}
-use Rattle.mon_recorders.specs.declared.happening.Kind.{Kind}
-use Rattle.mon_recorders.specs.declared.happening.Kind.TheVariants.{Local, Global, Ancillary}
-use Rattle.mon_recorders.specs.Happenings.{record_of}
-use Rattle.mon_values.specs.declared.value.Exc.{Exc}
-use Rattle.mon_events.specs.declared.event.Event.{Event}
-use Rattle.mon_events.specs.declared.op.Op.{Op}
-use Rattle.mon_events.specs.Ops.{main_event}
-use Rattle.mon_frames.specs.declared.frame.Frame.{Frame}
-use Rattle.mon_frames.specs.declared.call.Call.{Call}
-use Rattle.mon_frames.specs.declared.call.Origin.{Origin}
-use Rattle.mon_frames.specs.declared.call.Origin.TheVariants.{Plain, Generator as Generated}
-use Rattle.mon_frames.specs.Calls.{handler_due}
-use Rattle.mon_frames.specs.Views.{FramesView, without_top}
-use Rattle.mon_code.specs.declared.program.Handler.{Handler}
-use Rattle.mon_machine.specs.declared.mode.Ending.{Ending}
-use Rattle.mon_machine.specs.State.{State, Move, goes, with_frame}
-use Rattle.mon_machine.specs.Moves.{effect}
-use Rattle.mon_machine.specs.Events.{Shown, shown, of_call, happens, offset, line_events, in_main, local_event, slot_events, ancillary_events, raise_events, instruction_events}
-use Rattle.mon_recorders.proofs.Folds.{for_tools_same, for_tools_never, delivered_append}
-use Rattle.mon_machine.specs.Step.{step, executed, with_line, goes_out, unwinds_from, unwinds}
+use Rattle.mon_recorders.specs.declared.happening.Kind.TheVariants.{Local}
+use Rattle.mon_machine.specs.State.{State, goes}
+use Rattle.mon_machine.specs.Step.{step}
 use Rattle.mon_machine.proofs.Runs.{stands_still, nothing_happens}
 use Rattle.mon_machine.specs.Run.{after_steps, steps_done, heard}
 use Rattle.mon_machine.specs.Serial.{wants_line, line_records, WantsLine, HasLineWants}

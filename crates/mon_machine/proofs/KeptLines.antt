@@ -5,7 +5,6 @@ use Rattle.std.specs.List.{AllByRecursion}
 use Rattle.std.proofs.lemmas.Nat.Bits.{bit_at-pow_other}
 use Rattle.std.proofs.lemmas.Option.{same_Some, none-some}
 use Rattle.std.proofs.lemmas.Bool.Decides.{nat_tests}
-use Rattle.mon_values.specs.declared.value.Value.{Value}
 use Rattle.mon_events.specs.Events.{place, rank}
 use Rattle.mon_events.specs.declared.event.Event.{Event}
 use Rattle.mon_events.specs.declared.event.Slot.{Slot}
@@ -17,16 +16,13 @@ use Rattle.mon_words.specs.Words.{is_bit, is_enabled, is_called, is_once}
 use Rattle.mon_words.specs.History.{after, cell_at, offs}
 use Rattle.mon_words.specs.Told.{Told}
 use Rattle.mon_words.specs.declared.history.Board.{Board}
-use Rattle.mon_words.specs.declared.history.Cell.{Cell}
 use Rattle.mon_words.specs.declared.history.Mark.{Mark}
 use Rattle.mon_words.specs.declared.history.Mark.TheVariants.{Off, Put}
 use Rattle.mon_recorders.specs.declared.happening.Happening.{Happening}
 use Rattle.mon_recorders.specs.declared.happening.Kind.{Kind}
 use Rattle.mon_recorders.specs.declared.happening.Kind.TheVariants.{Local, Global, Ancillary}
-use Rattle.mon_recorders.specs.declared.record.Record.{Record}
-use Rattle.mon_recorders.specs.declared.record.Disabled.{Disabled}
-use Rattle.mon_recorders.specs.Happenings.{Filter, delivered, answers, record_of, disabled_of, records_in, disables_in, is_local_kind}
-use Rattle.mon_recorders.specs.Readings.{in_turn, Reader, read_at, entries_by}
+use Rattle.mon_recorders.specs.Happenings.{delivered, answers, record_of, disabled_of, records_in, disables_in, is_local_kind}
+use Rattle.mon_recorders.specs.Readings.{in_turn, Reader, entries_by}
 use Rattle.mon_recorders.specs.Boards.{is_enabled_by, let_through, reader, mark_of, IsAt, AreAt}
 use Rattle.mon_recorders.proofs.Folds.{for_tools_same, for_tools_never}
 use Rattle.mon_recorders.proofs.Spans.{in_turn_none, in_turn_more, in_turn_same}
@@ -35,7 +31,7 @@ use Rattle.mon_machine.specs.State.{State, start}
 use Rattle.mon_machine.specs.Step.{step}
 use Rattle.mon_machine.specs.Run.{after_steps, heard, is_line}
 use Rattle.mon_machine.specs.Serial.{wants_line, line_records, WantsLine, HasLineWants}
-use Rattle.mon_machine.specs.Laws.{IsCall, MarksLine, is_line_kind}
+use Rattle.mon_machine.specs.Laws.{MarksLine, is_line_kind}
 use Rattle.mon_machine.specs.Advances.{Progress, nothing_done, Due, due_at, due_in, due_in_top, due_in_mode, instruction_due, events_from, Ran}
 use Rattle.mon_machine.specs.AdvanceLaws.{StandAt, KeepsLines, KeptLines, LinesAreKept}
 use Rattle.mon_machine.proofs.Bare.{no_bit}

@@ -1,7 +1,6 @@
 -- The events of a step stand at its location, and so do its loads.
-use Rattle.std.proofs.Common.{◌≡◌, ℕ, zero, suc, ◌+◌, ◌==◌, ◌<◌, Bool, true, false, cond, List, [], ◌∷◌, ◌++◌, length, take, get_or, refl, sym, ap, ◌∙◌, arith, append_assoc, append-nil}
+use Rattle.std.proofs.Common.{◌≡◌, ℕ, zero, suc, ◌+◌, ◌==◌, Bool, true, false, cond, List, [], ◌∷◌, ◌++◌, length, get_or, refl, ap, ◌∙◌, append-nil}
 use Rattle.std.specs.Prelude.{Option, Some, None, slice_get, if◌then◌else◌}
-use Rattle.std.specs.List.{AllByRecursion}
 use Rattle.mon_values.specs.declared.value.Exc.{Exc}
 use Rattle.mon_events.specs.declared.event.Event.{Event}
 use Rattle.mon_events.specs.declared.event.Slot.{Slot}
@@ -18,12 +17,11 @@ use Rattle.mon_frames.specs.declared.call.Origin.TheVariants.{Plain, Generator a
 use Rattle.mon_frames.specs.Calls.{handler_due}
 use Rattle.mon_frames.specs.Views.{FramesView, without_top}
 use Rattle.mon_words.specs.declared.history.Board.{Board}
-use Rattle.mon_words.specs.declared.history.Mark.{Mark}
 use Rattle.mon_words.specs.declared.tally.Load.{Load}
 use Rattle.mon_words.specs.Tallies.{location_loads}
 use Rattle.mon_recorders.specs.declared.happening.Happening.{Happening}
 use Rattle.mon_recorders.specs.declared.happening.Kind.{Kind}
-use Rattle.mon_recorders.specs.declared.happening.Kind.TheVariants.{Local, Global}
+use Rattle.mon_recorders.specs.declared.happening.Kind.TheVariants.{Local}
 use Rattle.mon_recorders.specs.Happenings.{for_tools}
 use Rattle.mon_recorders.specs.Readings.{in_turn}
 use Rattle.mon_recorders.specs.Boards.{AreAt}
@@ -32,11 +30,10 @@ use Rattle.mon_machine.specs.declared.mode.Ending.{Ending}
 use Rattle.mon_machine.specs.State.{State, Move, with_frame}
 use Rattle.mon_machine.specs.Moves.{effect}
 use Rattle.mon_machine.specs.Events.{Shown, shown, of_call, happens, offset, line_events, in_main, local_event, slot_events, ancillary_events, raise_events, instruction_events}
-use Rattle.mon_machine.specs.Step.{step, in_mode, runs_top, in_code, at_location, executed, with_line, goes_out, unwinds_from, unwinds}
+use Rattle.mon_machine.specs.Step.{step, in_mode, runs_top, in_code, at_location, with_line, goes_out, unwinds_from, unwinds}
 use Rattle.mon_machine.specs.Run.{after_steps}
-use Rattle.mon_machine.specs.Advances.{Progress, Due, due_at, due_in, due_in_top, due_in_mode, instruction_due, any_global, any_enabled, loads_for, location_load, loads_of, board_at, loads_by, Ran}
+use Rattle.mon_machine.specs.Advances.{Due, due_at, due_in, due_in_top, due_in_mode, instruction_due, any_global, any_enabled, loads_for, location_load, loads_of, board_at, loads_by}
 use Rattle.mon_machine.specs.AdvanceLaws.{StandAt, EventsStandAtSteps, location_read, LoadsStandAtSteps}
-use Rattle.mon_recorders.proofs.Spans.{in_turn_none}
 
 at_append : (location : ℕ) (xs ys : List Happening) → AreAt location xs → AreAt location ys → AreAt location (xs ++ ys)
 at_append location [] ys h k = k

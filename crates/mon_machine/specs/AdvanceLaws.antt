@@ -1,5 +1,5 @@
 -- The laws of advances.
-use Rattle.std.specs.Prelude.{◌≡◌, ℕ, ◌+◌, ◌≤◌, Bool, true, false, List, [], ◌∷◌, ◌++◌, length, slice_index, Option, Some, None, Result}
+use Rattle.std.specs.Prelude.{◌≡◌, ℕ, ◌+◌, Bool, true, false, List, [], ◌∷◌, ◌++◌, length, slice_index, Option, Some, None, Result}
 use Rattle.std.specs.List.{AllByRecursion}
 use Rattle.mon_values.specs.declared.value.Value.{Value}
 use Rattle.mon_events.specs.declared.event.Event.{Event}
@@ -16,13 +16,13 @@ use Rattle.mon_recorders.specs.declared.happening.Happening.{Happening}
 use Rattle.mon_recorders.specs.declared.happening.Kind.{Kind}
 use Rattle.mon_recorders.specs.Readings.{entries_by, in_turn}
 use Rattle.mon_recorders.specs.Boards.{reader, AreAt}
-use Rattle.mon_machine.specs.State.{State, goes, start}
+use Rattle.mon_machine.specs.State.{State, start}
 use Rattle.mon_machine.specs.Step.{step}
 use Rattle.mon_machine.specs.Run.{after_steps}
 use Rattle.mon_machine.specs.Bare.{IsBare}
 use Rattle.mon_machine.specs.Serial.{HasLineWants, line_records}
 use Rattle.mon_machine.specs.Laws.{IsCall}
-use Rattle.mon_machine.specs.Advances.{Progress, nothing_done, Due, instruction_due, events_from, RanStep, Ran, Stays, Pauses, polls_once, Polled, PolledOnce, Advanced, is_asked, plain_after}
+use Rattle.mon_machine.specs.Advances.{Progress, nothing_done, Due, instruction_due, events_from, RanStep, Ran, Stays, Pauses, Polled, PolledOnce, Advanced, is_asked, plain_after}
 
 -- an advance is made of its steps, and of the polls before them
 pub record StepsAddUp : Type 0 where

@@ -1,5 +1,5 @@
 -- The laws of the plain machine.
-use Rattle.std.specs.Prelude.{ℕ, ◌+◌, ◌≤◌, ◌≡◌, Bool, true, false, List, [], ◌++◌, length, drop, Some, slice_get}
+use Rattle.std.specs.Prelude.{ℕ, ◌+◌, ◌≤◌, ◌≡◌, Bool, true, false, List, ◌++◌, length, drop, Some, slice_get}
 use Rattle.std.specs.List.{AllByRecursion}
 use Rattle.mon_values.specs.declared.value.Value.{Value}
 use Rattle.mon_events.specs.declared.event.Event.{Event}

@@ -53,12 +53,12 @@ fn code_names(alloc: Global, program: &Program) -> Result<Vec<String>, AllocErro
 }
 
 /// The name of a code among those of all; nothing where there is none.
-fn write_name(out: &mut String, names: &[String], code: u16) -> Result<(), AllocError>
-    ensures { OnOk result ((p : Parts) → spec.AreNames p names.now → string_bytes out.new ≡ string_bytes out.old ++ spec.code_text p code) }
+fn name_of(names: &[String], code: u16) -> &str
+    ensures { (p : Parts) → spec.AreNames p names.now → result.now ≡ spec.code_text p code }
 {
     match names.get(code as usize) {
-        None => Ok(()),
-        Some(name) => out.push_str(name.as_str()),
+        None => "",
+        Some(name) => name.as_str(),
     }
 }
 
@@ -175,7 +175,7 @@ fn write_record(
     ensures { OnOk result ((p : Parts) → spec.AreNames p names.now → string_bytes out.new ≡ string_bytes out.old ++ spec.record_line p delivery.now) }
 {
     write_record_head(out, delivery)?;
-    write_name(out, names, delivery.code())?;
+    out.push_str(name_of(names, delivery.code()))?;
     write_arguments(out, delivery)?;
     out.push_str("\n")
 }
