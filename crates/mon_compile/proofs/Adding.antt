@@ -1,5 +1,5 @@
 -- Codes of functions are added until they are too many.
-use Rattle.std.proofs.Common.{◌≡◌, ℕ, ◌+◌, ◌<◌, ◌≤◌, List, [], ◌∷◌, ◌++◌, length, map, drop, get_or, sym, ap, ◌∙◌, subst, arith, length-append}
+use Rattle.std.proofs.Common.{◌≡◌, ℕ, zero, suc, ◌+◌, ◌<◌, ◌≤◌, List, [], ◌∷◌, ◌++◌, length, map, drop, get_or, sym, ap, ◌∙◌, subst, arith, length-append}
 use Rattle.std.specs.Prelude.{Result, Ok, Err}
 use Rattle.std.specs.Result.{IsErrAnd}
 use Rattle.std.proofs.lemmas.List.{length-map, drop_more}
@@ -12,9 +12,25 @@ use Rattle.mon_compile.specs.declared.fault.CompileFault.{CompileFault}
 use Rattle.mon_compile.specs.declared.fault.CompileFault.TheVariants.{DuplicateName, Misplaced, TooLarge, NotBuilt, TooManyLocations, Memory}
 use Rattle.mon_compile.specs.declared.program.Listing.{Listing}
 use Rattle.mon_compile.specs.Answered.{AnswersCode, AddsCodes, ListsCodes, fault_of_emission}
-use Rattle.mon_compile.specs.Faults.{most_locations}
+use Rattle.mon_compile.specs.Faults.{FewLocals, most_locations}
 use Rattle.mon_compile.specs.Functions.{function_code}
 use Rattle.mon_compile.specs.Modules.{op_number, bases_of, functions_of}
+
+first_few : (x : ModuleItem) (items : List ModuleItem) → FewLocals (functions_of (x ∷ items)) → FewLocals (functions_of (x ∷ []))
+first_few (item.Function f) items few = (few.0, tt)
+first_few (item.Constant line name c) items few = tt
+first_few (item.Text t) items few = tt
+
+others_few : (x : ModuleItem) (items : List ModuleItem) → FewLocals (functions_of (x ∷ items)) → FewLocals (functions_of items)
+others_few (item.Function f) items few = few.1
+others_few (item.Constant line name c) items few = few
+others_few (item.Text t) items few = few
+
+-- no function of an item has too many locals
+pub few_in_item : (items : List ModuleItem) (i : ℕ) (x : ModuleItem) → i < length items → x ≡ get_or items i x → FewLocals (functions_of items) → FewLocals (functions_of (x ∷ []))
+few_in_item [] i x h is few = absurd (omega arith)
+few_in_item (y ∷ items) zero x h is few = subst (λ (z : ModuleItem). FewLocals (functions_of (z ∷ []))) (sym is) (first_few y items few)
+few_in_item (y ∷ items) (suc i) x h is few = few_in_item items i x (omega arith) is (others_few y items few)
 
 added : (fault : EmitFault) (limit : ℕ) (f : Function) (old new : Listing) → limit + length old.bases.items ≡ most_locations → AnswersCode (Err fault) limit f → AddsCodes (Err (fault_of_emission fault)) old new (f ∷ [])
 added emission.TooManyLocations limit f old new room full =

@@ -116,3 +116,7 @@ pub many_locals : (most : ℕ) (f : Function) (start names : Names) (body : List
 many_locals most f start names body es eb is h =
     let e : names ≡ few_names most f.parameters (of_block f.body) = is ∙ ap (λ (l : Names). few_names most l (of_block body)) es ∙ ap (λ (l : List Statement). few_names most f.parameters (of_block l)) eb in
     over_all most f.parameters (of_block f.body) (subst (λ (l : Names). most < length l) e h)
+
+-- the parameters are among them
+pub parameters_few : (f : Function) → length f.parameters ≤ length (locals_of f)
+parameters_few f = kept f.parameters (of_block f.body)

@@ -22,6 +22,7 @@ pub mod Sizes
 pub mod Nodes
 pub mod ExpressionHoles
 pub mod Emissions
+pub mod Grown
 pub mod Turns
 pub mod StatementHoles
 pub mod Clauses

@@ -24,7 +24,7 @@ use Rattle.mon_compile.specs.declared.fault.CompileFault.{CompileFault}
 use Rattle.mon_compile.specs.declared.fault.CompileFault.TheVariants.{DuplicateName, Misplaced, TooLarge, NotBuilt, TooManyLocations}
 use Rattle.mon_compile.specs.Functions.{joined, locals_of, function_code}
 use Rattle.mon_compile.specs.Modules.{constants_in, globals_in, locations_of, unmarked, marks, marked, op_number, bases_of, codes_of, functions_of, constant_value_step, constant_value, module_constants, function_name, compiled}
-use Rattle.mon_compile.specs.Faults.{duplicate, unless, all_loose, loose_of, misplaced_in, most_locals, large_lines_in, unbuilt_in, least, first_fault, most_locations, too_many, compile_fault}
+use Rattle.mon_compile.specs.Faults.{FewLocals, duplicate, unless, all_loose, loose_of, misplaced_in, most_locals, large_lines_in, unbuilt_in, least, first_fault, most_locations, too_many, fault_of_tree, compile_fault}
 use Rattle.mon_compile.proofs.ExpressionArguments.{int_constant, text_constant, single_constant, empty_constant}
 use Rattle.mon_compile.proofs.Located.{Ops, code_checked}
 
@@ -60,11 +60,7 @@ codes_length b first (f ∷ fs) = ap (λ n. suc n) (codes_length b (first + leng
 
 -- codes
 
-abbrev AllFew : List Function → Type 0
-AllFew [] = Unit {0}
-AllFew (f ∷ fs) = (length (locals_of f) ≤ 255) × AllFew fs
-
-codes_checked : (b front : List ℕ) (first : ℕ) (fs : List Function) → b ≡ front ++ bases_of fs → length front ≡ first → AllFew fs → checked.AllCodes b first (codes_of b first fs)
+codes_checked : (b front : List ℕ) (first : ℕ) (fs : List Function) → b ≡ front ++ bases_of fs → length front ≡ first → FewLocals fs → checked.AllCodes b first (codes_of b first fs)
 codes_checked b front first [] e len few = ap length (e ∙ append-nil front) ∙ len
 codes_checked b front first (f ∷ fs) e len few =
     let code = function_code f in
@@ -139,7 +135,7 @@ unless_none false line h = cc
 below_next : (n : ℕ) → nat_lt n (255 + 1) ≡ true → n ≤ 255
 below_next n h = grind (arith, nat_tests)
 
-all_few : (fs : List Function) → joined (map misplaced_in fs) ≡ [] → AllFew fs
+all_few : (fs : List Function) → joined (map misplaced_in fs) ≡ [] → FewLocals fs
 all_few [] h = tt
 all_few (f ∷ fs) h =
     let rest = joined (map misplaced_in fs) in
@@ -175,6 +171,15 @@ compiled_checked m h =
       constants = all_named m.items;
       codes = codes_checked b [] 0 fs refl refl (all_few fs placed);
     }
+
+-- the trees show that no function has too many locals
+pub few_locals : (m : Module) → fault_of_tree m ≡ None → FewLocals (functions_of m.items)
+few_locals m h =
+    let fs = functions_of m.items in
+    let twice = duplicate [] m.items in
+    let places = least (joined (map misplaced_in fs)) in
+    let others = first_fault TooLarge (least (large_lines_in m.items)) (first_fault NotBuilt (least (joined (map unbuilt_in fs))) None) in
+    all_few fs (least_none (joined (map misplaced_in fs)) (none_left Misplaced places others (none_right DuplicateName twice (first_fault Misplaced places others) h)))
 
 -- nothing that is misplaced
 pub no_misplaced : (m : Module) → compile_fault m ≡ None → joined (map misplaced_in (functions_of m.items)) ≡ []

@@ -1,5 +1,5 @@
 -- Why a module has no program: the faults in the order in which they are tried.
-use Rattle.std.specs.Prelude.{ℕ, ◌+◌, ◌||◌, min, nat_lt, Bool, true, false, if◌then◌else◌, List, [], ◌∷◌, ◌++◌, length, map, Option, Some, None}
+use Rattle.std.specs.Prelude.{ℕ, ◌+◌, ◌≤◌, ◌||◌, min, nat_lt, Bool, true, false, if◌then◌else◌, List, [], ◌∷◌, ◌++◌, length, map, Option, Some, None}
 use Rattle.mon_values.specs.declared.value.Value.{Value}
 use Rattle.mon_values.specs.declared.value.Value as value
 use Rattle.mon_values.specs.Weights.{weight, depth, most_weight, most_depth}
@@ -65,6 +65,11 @@ loose_of = fold-Statement (Bool → List ℕ) (Bool → List ℕ) loose_step loo
 
 abbrev pub most_locals : ℕ
 most_locals = 255
+
+-- each of these functions has at most so many
+abbrev pub FewLocals : List Function → Type 0
+FewLocals [] = Unit {0}
+FewLocals (f ∷ fs) = (length (locals_of f) ≤ most_locals) × FewLocals fs
 
 abbrev pub misplaced_in : Function → List ℕ
 misplaced_in f = unless (nat_lt (length (locals_of f)) (most_locals + 1)) f.line ++ all_loose (map loose_of f.body) false

@@ -9,18 +9,18 @@ use mon_values::value::Value;
 #[derive(Clone, Copy, Debug, PartialEq, Eq)]
 pub enum Label {
     /// An index.
-    At(usize),
+    At(u32),
     /// The end of the statement whose entry stands inside so many others.
-    EndOf(usize),
+    EndOf(u32),
     /// The handler of the statement whose entry stands inside so many others.
-    HandlerOf(usize),
+    HandlerOf(u32),
 }
 
 /// What an opcode is given.
 #[derive(Debug, Drop)]
 pub enum Argument {
     /// A count, an operator, or the number of a local or a builtin; 0 where the opcode takes none.
-    Number(usize),
+    Number(u32),
     /// A constant.
     Constant(Value),
     /// The name of a global.
@@ -35,9 +35,9 @@ pub struct Handler {
     /// Where the exception goes.
     pub to: Label,
     /// How many values are left on the operand stack.
-    pub stack: usize,
+    pub stack: u32,
     /// How many exceptions are left on the handling list.
-    pub handling: usize,
+    pub handling: u32,
 }
 
 /// Where an instruction stands: its line, its handler, and the depths of the operand stack and the handling list before
@@ -49,9 +49,9 @@ pub struct Spot {
     /// The handler, if there is one.
     pub handler: Option<Handler>,
     /// How many values are on the operand stack.
-    pub stack: usize,
+    pub stack: u32,
     /// How many exceptions are on the handling list.
-    pub handling: usize,
+    pub handling: u32,
 }
 
 /// An opcode with its argument, at its spot.

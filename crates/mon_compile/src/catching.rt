@@ -1,6 +1,6 @@
 //! The code of `try` and its clauses.
 
-ghost use Rattle.std.specs.Prelude.{◌≡◌, map, IfOk};
+ghost use Rattle.std.specs.Prelude.{◌≡◌, ◌<◌, ◌≤◌, length, map};
 ghost use Rattle.mon_compile.specs.Contexts as spec;
 ghost use Rattle.mon_compile.specs.Emission.{Emits};
 ghost use Rattle.mon_compile.specs.Expressions as scheme;
@@ -12,18 +12,19 @@ use crate::emitter::{EmitFault, Emitter};
 use crate::surroundings::Surroundings;
 use mon_events::Op;
 use mon_trees::tree::{Expression, Handler, Statement};
-use std::alloc::AllocError;
-
-impl Spot {
-    // The spot of a clause: the exception is on the stack and on the handling list.
-    fn in_clause(self) -> Result<Spot, AllocError>
-        ensures { IfOk result (λ s. s ≡ statements.in_clause self) }
-    {
-        self.beside(1)?.above(1)
-    }
-}
 
 impl Emitter<'_> {
+    // The spot of a clause: the exception is on the stack and on the handling list.
+    fn in_clause(&self, spot: Spot) -> Spot
+        requires stack { spot.stack < length self.now.code }
+        requires handling { spot.handling < length self.now.code }
+        ensures spot { result ≡ statements.in_clause spot }
+        ensures stack { result.stack ≤ length self.now.code }
+    {
+        let beside = self.beside(spot);
+        self.above(beside, 1)
+    }
+
     /// NOP, and then the parts of a `try`.
     #[cycle(statement)]
     pub fn try_statement(
@@ -34,13 +35,15 @@ impl Emitter<'_> {
         clauses: &[Handler],
         last: &[Statement],
     ) -> Result<(), EmitFault>
+        requires { length (open_context context.now) ≤ length self.old.code }
         ensures { Emits result self.old self.new (statements.try_code line (statements.block_code self.old.locals body.now) (map (statements.handler_code self.old.locals) clauses.now) (map (statements.statement_code self.old.locals) last.now) (open_context context.now)) }
     {
         if !last.is_empty() {
             // Never reached: a `finally` is a fault, and faults are tried before code is made.
             return Err(EmitFault::Memory);
         }
-        self.put_plain(context.at_line(line)?, Op::Nop)?;
+        let spot = self.at_line(context, line);
+        self.put_plain(spot, Op::Nop)?;
         self.handlers(context, body, clauses)
     }
 
@@ -52,13 +55,14 @@ impl Emitter<'_> {
         body: &[Statement],
         clauses: &[Handler],
     ) -> Result<(), EmitFault>
+        requires { length (open_context context.now) < length self.old.code }
         ensures { Emits result self.old self.new (statements.handlers_code (statements.block_code self.old.locals body.now) (map (statements.handler_code self.old.locals) clauses.now) (open_context context.now)) }
     {
+        let low = self.no_line(context);
+        let up = self.above(low, 1);
         self.try_body(context, body)?;
         let jump = self.here();
-        let low = context.no_line()?;
         self.put_plain(low, Op::JumpForward)?;
-        let up = low.above(1)?;
         self.put_plain(up, Op::PushExcInfo)?;
         self.clauses(context, clauses)?;
         self.jump_here(jump, low, Op::JumpForward);
@@ -68,10 +72,11 @@ impl Emitter<'_> {
     // The body of a `try`, whose handler stands one instruction behind the body.
     #[cycle(statement)]
     fn try_body(&mut self, context: &Surroundings, body: &[Statement]) -> Result<(), EmitFault>
+        requires { length (open_context context.now) < length self.old.code }
         ensures { Emits result self.old self.new (inside spec.Try 1 (statements.block_code self.old.locals body.now) (open_context context.now)) }
     {
         let from = self.here();
-        let handler = Label::HandlerOf(context.depth()?);
+        let handler = Label::HandlerOf(self.depth(context));
         self.block(&Surroundings::Try(&*context), body)?;
         self.settle_behind(from, handler, 1);
         Ok(())
@@ -80,10 +85,11 @@ impl Emitter<'_> {
     // The clauses of a `try`, which ends behind them.
     #[cycle(statement)]
     fn clauses(&mut self, context: &Surroundings, clauses: &[Handler]) -> Result<(), EmitFault>
+        requires { length (open_context context.now) < length self.old.code }
         ensures { Emits result self.old self.new (ending (statements.clauses_code (map (statements.handler_code self.old.locals) clauses.now)) (open_context context.now)) }
     {
         let from = self.here();
-        let end = Label::EndOf(context.depth()?);
+        let end = Label::EndOf(self.depth(context));
         self.each_clause(context, end, clauses)?;
         self.settle_behind(from, end, 0);
         Ok(())
@@ -97,15 +103,17 @@ impl Emitter<'_> {
         end: Label,
         clauses: &[Handler],
     ) -> Result<(), EmitFault>
+        requires { length (open_context context.now) < length self.old.code }
         ensures { Emits result self.old self.new (statements.clauses_code (map (statements.handler_code self.old.locals) clauses.now) end (open_context context.now)) }
     {
+        let low = self.no_line(context);
+        let spot = self.in_clause(low);
         for clause in clauses {
             self.clause(context, end, clause)?;
             if clause.class.is_none() {
                 return Ok(());
             }
         }
-        let spot = context.no_line()?.in_clause()?;
         self.put_plain(spot, Op::Reraise)
     }
 
@@ -117,6 +125,7 @@ impl Emitter<'_> {
         end: Label,
         clause: &Handler,
     ) -> Result<(), EmitFault>
+        requires { length (open_context context.now) < length self.old.code }
         ensures { Emits result self.old self.new ((statements.handler_code self.old.locals clause.now).code end (open_context context.now)) }
     {
         let body = clause.body.as_slice();
@@ -139,9 +148,11 @@ impl Emitter<'_> {
         end: Label,
         body: &[Statement],
     ) -> Result<(), EmitFault>
+        requires { length (open_context context.now) < length self.old.code }
         ensures { Emits result self.old self.new (statements.bare_code line (statements.block_code self.old.locals body.now) end (open_context context.now)) }
     {
-        let spot = context.at_line(line)?.in_clause()?;
+        let low = self.at_line(context, line);
+        let spot = self.in_clause(low);
         self.put_plain(spot, Op::PopTop)?;
         self.except_body(context, end, body)?;
         Ok(())
@@ -157,12 +168,14 @@ impl Emitter<'_> {
         class: &Expression,
         body: &[Statement],
     ) -> Result<(), EmitFault>
+        requires { length (open_context context.now) < length self.old.code }
         ensures { Emits result self.old self.new (statements.except_code line (scheme.expression_code self.old.locals class.now) (statements.block_code self.old.locals body.now) end (open_context context.now)) }
     {
-        let spot = context.at_line(line)?.in_clause()?;
+        let low = self.at_line(context, line);
+        let spot = self.in_clause(low);
+        let up = self.above(spot, 1);
         self.ending(spot, class, Op::CheckExcMatch, 0)?;
         let branch = self.here();
-        let up = spot.above(1)?;
         self.put_plain(up, Op::PopJumpIfFalse)?;
         self.put_plain(spot, Op::PopTop)?;
         self.except_body(context, end, body)?;
@@ -178,11 +191,12 @@ impl Emitter<'_> {
         end: Label,
         body: &[Statement],
     ) -> Result<(), EmitFault>
+        requires { length (open_context context.now) < length self.old.code }
         ensures { Emits result self.old self.new (statements.except_body (statements.block_code self.old.locals body.now) end (open_context context.now)) }
     {
+        let low = self.no_line(context);
+        let handling = self.beside(low);
         self.block(&Surroundings::Except(&*context), body)?;
-        let low = context.no_line()?;
-        let handling = low.beside(1)?;
         self.put_plain(handling, Op::PopExcept)?;
         self.put_jump(low, Op::JumpForward, end)
     }
@@ -195,15 +209,17 @@ impl Emitter<'_> {
         line: u32,
         end: Label,
         class: &Expression,
-        local: usize,
+        local: u32,
         body: &[Statement],
     ) -> Result<(), EmitFault>
+        requires { length (open_context context.now) < length self.old.code }
         ensures { Emits result self.old self.new (statements.except_as_code line (scheme.expression_code self.old.locals class.now) local (statements.block_code self.old.locals body.now) end (open_context context.now)) }
     {
-        let spot = context.at_line(line)?.in_clause()?;
+        let low = self.at_line(context, line);
+        let spot = self.in_clause(low);
+        let up = self.above(spot, 1);
         self.ending(spot, class, Op::CheckExcMatch, 0)?;
         let branch = self.here();
-        let up = spot.above(1)?;
         self.put_plain(up, Op::PopJumpIfFalse)?;
         self.put_number(spot, Op::StoreFast, local)?;
         self.except_as_body(context, end, local, body)?;
@@ -218,18 +234,21 @@ impl Emitter<'_> {
         &mut self,
         context: &Surroundings,
         end: Label,
-        local: usize,
+        local: u32,
         body: &[Statement],
     ) -> Result<(), EmitFault>
+        requires { length (open_context context.now) < length self.old.code }
         ensures { Emits result self.old self.new (statements.except_as_body local (statements.block_code self.old.locals body.now) end (open_context context.now)) }
     {
+        let low = self.no_line(context);
+        let handling = self.beside(low);
+        let up = self.above(low, 1);
+        let spot = self.in_clause(low);
         self.named_body(context, local, body)?;
-        let low = context.no_line()?;
-        self.put_plain(low.beside(1)?, Op::PopExcept)?;
+        self.put_plain(handling, Op::PopExcept)?;
         self.put_number(low, Op::DeleteFast, local)?;
         self.put_jump(low, Op::JumpForward, end)?;
-        self.put_plain(low.above(1)?, Op::PushExcInfo)?;
-        let spot = low.in_clause()?;
+        self.put_plain(up, Op::PushExcInfo)?;
         self.put_number(spot, Op::DeleteFast, local)?;
         self.put_plain(spot, Op::Reraise)?;
         Ok(())
@@ -240,13 +259,14 @@ impl Emitter<'_> {
     fn named_body(
         &mut self,
         context: &Surroundings,
-        local: usize,
+        local: u32,
         body: &[Statement],
     ) -> Result<(), EmitFault>
+        requires { length (open_context context.now) < length self.old.code }
         ensures { Emits result self.old self.new (inside (spec.ExceptAs local) 3 (statements.block_code self.old.locals body.now) (open_context context.now)) }
     {
         let from = self.here();
-        let handler = Label::HandlerOf(context.depth()?);
+        let handler = Label::HandlerOf(self.depth(context));
         self.block(&Surroundings::ExceptAs(local, &*context), body)?;
         self.settle_behind(from, handler, 3);
         Ok(())

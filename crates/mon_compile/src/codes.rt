@@ -2,6 +2,7 @@
 
 ghost use Rattle.std.specs.Prelude.{◌≡◌, ◌≤◌, ◌++◌, length, map, IfOk, OnOk};
 ghost use Rattle.mon_code.specs.Checked as checked;
+ghost use Rattle.mon_compile.specs.Faults.{most_locals, most_locations};
 ghost use Rattle.mon_compile.specs.Functions as functions;
 ghost use Rattle.mon_compile.specs.Marking as marking;
 ghost use Rattle.mon_compile.specs.Modules as spec;
@@ -22,11 +23,13 @@ pub fn place(
     alloc: Global,
     function: &Function,
     locals: &[Text],
-    first: usize,
+    first: u32,
     code: &[Instruction],
 ) -> Result<Code, AllocError>
     requires locals { locals.now ≡ functions.locals_of function.now }
+    requires few_locals { length locals.now ≤ most_locals }
     requires code { code.now ≡ functions.function_code function.now }
+    requires few_locations { length code.now ≤ most_locations }
     ensures { IfOk result (λ code. code ≡ marking.code_of first function.now) }
 {
     let locals = texts(alloc, locals)?;
@@ -35,33 +38,13 @@ pub fn place(
     let locations = locations(alloc, code)?;
     let locations = marked(alloc, code, locations.as_slice())?;
     Ok(Code {
-        parameters: small(function.parameters.len())?,
+        parameters: function.parameters.len() as u16,
         locals,
         globals,
         constants,
-        first: narrow(first)?,
+        first,
         locations,
     })
-}
-
-// A count that passes its type is want of memory: it cannot come in a program of at most 65,536 locations.
-fn narrow(count: usize) -> Result<u32, AllocError>
-    ensures { IfOk result (λ n. n ≡ count) }
-{
-    match u32::try_from(count) {
-        Ok(n) => Ok(n),
-        Err(_) => Err(AllocError),
-    }
-}
-
-// The same: a function has at most 255 parameters.
-fn small(count: usize) -> Result<u16, AllocError>
-    ensures { IfOk result (λ n. n ≡ count) }
-{
-    match u16::try_from(count) {
-        Ok(n) => Ok(n),
-        Err(_) => Err(AllocError),
-    }
 }
 
 fn texts(alloc: Global, names: &[Text]) -> Result<Items<mon_values::text::Text>, AllocError>
@@ -129,20 +112,21 @@ fn add_global(
 
 // The locations of a code, none of which is marked.
 fn locations(alloc: Global, code: &[Instruction]) -> Result<Items<Location>, AllocError>
+    requires { length code.now ≤ most_locations }
     ensures { IfOk result (λ locations. locations ≡ spec.locations_of 0 0 code.now) }
 {
     let mut locations = Items::new(alloc);
     let mut constants = 0;
     let mut globals = 0;
     for instruction in code {
-        locations.push(location(constants, globals, instruction)?)?;
+        locations.push(location(constants, globals, instruction))?;
         constants += constant_count(&instruction.argument);
         globals += global_count(&instruction.argument);
     }
     Ok(locations)
 }
 
-fn constant_count(argument: &Argument) -> usize
+fn constant_count(argument: &Argument) -> u32
     ensures count { result ≡ length (spec.constants_in argument.now) }
     ensures few { result ≤ 1 }
 {
@@ -152,7 +136,7 @@ fn constant_count(argument: &Argument) -> usize
     }
 }
 
-fn global_count(argument: &Argument) -> usize
+fn global_count(argument: &Argument) -> u32
     ensures count { result ≡ length (spec.globals_in argument.now) }
     ensures few { result ≤ 1 }
 {
@@ -163,38 +147,34 @@ fn global_count(argument: &Argument) -> usize
 }
 
 // The location of an instruction, behind so many constants and globals.
-fn location(
-    constants: usize,
-    globals: usize,
-    instruction: &Instruction,
-) -> Result<Location, AllocError>
-    ensures { IfOk result (λ l. l ≡ spec.location_of constants globals instruction.now) }
+fn location(constants: u32, globals: u32, instruction: &Instruction) -> Location
+    ensures { result ≡ spec.location_of constants globals instruction.now }
 {
     let spot = instruction.spot;
-    Ok(Location {
-        argument: argument_of(constants, globals, &instruction.argument)?,
+    Location {
+        argument: argument_of(constants, globals, &instruction.argument),
         line: spot.line,
         is_marked: false,
         is_safe: is_safe(instruction.op),
-        handler: handler(spot.handler)?,
-        stack: narrow(spot.stack)?,
-        handling: narrow(spot.handling)?,
-    })
+        handler: handler(spot.handler),
+        stack: spot.stack,
+        handling: spot.handling,
+    }
 }
 
-fn argument_of(constants: usize, globals: usize, argument: &Argument) -> Result<u32, AllocError>
-    ensures { IfOk result (λ n. n ≡ spec.argument_of constants globals argument.now) }
+fn argument_of(constants: u32, globals: u32, argument: &Argument) -> u32
+    ensures { result ≡ spec.argument_of constants globals argument.now }
 {
     match argument {
-        Argument::Number(n) => narrow(*n),
-        Argument::Constant(_) => narrow(constants),
-        Argument::Name(_) => narrow(globals),
-        Argument::Destination(label) => narrow(index_of(*label)),
+        Argument::Number(n) => *n,
+        Argument::Constant(_) => constants,
+        Argument::Name(_) => globals,
+        Argument::Destination(label) => index_of(*label),
     }
 }
 
 // An open label, of which none is left, counts as index 0.
-fn index_of(label: Label) -> usize
+fn index_of(label: Label) -> u32
     ensures { result ≡ placed.index_of label }
 {
     match label {
@@ -204,16 +184,16 @@ fn index_of(label: Label) -> usize
     }
 }
 
-fn handler(handler: Option<Handler>) -> Result<Option<Placed>, AllocError>
-    ensures { IfOk result (λ h. h ≡ placed.placed_handler handler) }
+fn handler(handler: Option<Handler>) -> Option<Placed>
+    ensures { result ≡ placed.placed_handler handler }
 {
     match handler {
-        Some(handler) => Ok(Some(Placed {
-            to: narrow(index_of(handler.to))?,
-            stack: narrow(handler.stack)?,
-            handling: narrow(handler.handling)?,
-        })),
-        None => Ok(None),
+        Some(handler) => Some(Placed {
+            to: index_of(handler.to),
+            stack: handler.stack,
+            handling: handler.handling,
+        }),
+        None => None,
     }
 }
 

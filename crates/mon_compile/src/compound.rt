@@ -1,6 +1,6 @@
 //! The code of statements with blocks.
 
-ghost use Rattle.std.specs.Prelude.{◌≡◌, map};
+ghost use Rattle.std.specs.Prelude.{◌≡◌, ◌<◌, ◌≤◌, length, map};
 ghost use Rattle.mon_compile.specs.Contexts as spec;
 ghost use Rattle.mon_compile.specs.Emission.{Emits};
 ghost use Rattle.mon_compile.specs.Expressions as scheme;
@@ -21,6 +21,7 @@ impl Emitter<'_> {
         context: &Surroundings,
         statement: &Statement,
     ) -> Result<(), EmitFault>
+        requires { length (open_context context.now) ≤ length self.old.code }
         ensures { Emits result self.old self.new (statements.statement_code self.old.locals statement.now (open_context context.now)) }
     {
         match statement {
@@ -44,6 +45,7 @@ impl Emitter<'_> {
     /// The code of statements one after another.
     #[cycle(statement)]
     pub fn block(&mut self, context: &Surroundings, body: &[Statement]) -> Result<(), EmitFault>
+        requires { length (open_context context.now) ≤ length self.old.code }
         ensures { Emits result self.old self.new (statements.block_code self.old.locals body.now (open_context context.now)) }
     {
         for statement in body {
@@ -61,16 +63,18 @@ impl Emitter<'_> {
         test: &Expression,
         body: &[Statement],
     ) -> Result<(), EmitFault>
+        requires { length (open_context context.now) ≤ length self.old.code }
         ensures { Emits result self.old self.new (statements.while_code line (scheme.expression_code self.old.locals test.now) (statements.block_code self.old.locals body.now) (open_context context.now)) }
     {
         let start = self.here();
-        let spot = context.at_line(line)?;
+        let spot = self.at_line(context, line);
+        let low = self.no_line(context);
+        let up = self.above(spot, 1);
         self.expression(spot, test)?;
         let branch = self.here();
-        let up = spot.above(1)?;
         self.put_plain(up, Op::PopJumpIfFalse)?;
         self.while_body(context, start, body)?;
-        self.put_jump(context.no_line()?, Op::JumpBackward, Label::At(start))?;
+        self.put_jump(low, Op::JumpBackward, Label::At(start))?;
         self.jump_here(branch, up, Op::PopJumpIfFalse);
         Ok(())
     }
@@ -80,13 +84,14 @@ impl Emitter<'_> {
     fn while_body(
         &mut self,
         context: &Surroundings,
-        start: usize,
+        start: u32,
         body: &[Statement],
     ) -> Result<(), EmitFault>
+        requires { length (open_context context.now) < length self.old.code }
         ensures { Emits result self.old self.new (inside (spec.While start) 1 (statements.block_code self.old.locals body.now) (open_context context.now)) }
     {
         let from = self.here();
-        let end = Label::EndOf(context.depth()?);
+        let end = Label::EndOf(self.depth(context));
         self.block(&Surroundings::While(start, &*context), body)?;
         self.settle_behind(from, end, 1);
         Ok(())
@@ -102,15 +107,16 @@ impl Emitter<'_> {
         whole: &Expression,
         body: &[Statement],
     ) -> Result<(), EmitFault>
+        requires { length (open_context context.now) ≤ length self.old.code }
         ensures { Emits result self.old self.new (statements.for_code self.old.locals line targets.now (scheme.expression_code self.old.locals whole.now) (statements.block_code self.old.locals body.now) (open_context context.now)) }
     {
-        let spot = context.at_line(line)?;
+        let spot = self.at_line(context, line);
+        let up = self.above(spot, 1);
+        let higher = self.above(spot, 2);
         self.ending(spot, whole, Op::GetIter, 0)?;
         let start = self.here();
-        let up = spot.above(1)?;
         self.put_plain(up, Op::ForIter)?;
         let branch = self.here();
-        let higher = spot.above(2)?;
         self.put_plain(higher, Op::PopJumpIfDone)?;
         self.store(up, targets)?;
         self.for_body(context, start, body)?;
@@ -126,13 +132,14 @@ impl Emitter<'_> {
     fn for_body(
         &mut self,
         context: &Surroundings,
-        start: usize,
+        start: u32,
         body: &[Statement],
     ) -> Result<(), EmitFault>
+        requires { length (open_context context.now) < length self.old.code }
         ensures { Emits result self.old self.new (inside (spec.For start) 2 (statements.block_code self.old.locals body.now) (open_context context.now)) }
     {
         let from = self.here();
-        let end = Label::EndOf(context.depth()?);
+        let end = Label::EndOf(self.depth(context));
         self.block(&Surroundings::For(start, &*context), body)?;
         self.settle_behind(from, end, 2);
         Ok(())
@@ -148,6 +155,7 @@ impl Emitter<'_> {
         body: &[Statement],
         other: &[Statement],
     ) -> Result<(), EmitFault>
+        requires { length (open_context context.now) ≤ length self.old.code }
         ensures { Emits result self.old self.new (statements.branch_code line (scheme.expression_code self.old.locals test.now) (statements.block_code self.old.locals body.now) (map (statements.statement_code self.old.locals) other.now) (open_context context.now)) }
     {
         if other.is_empty() {
@@ -166,12 +174,13 @@ impl Emitter<'_> {
         test: &Expression,
         body: &[Statement],
     ) -> Result<(), EmitFault>
+        requires { length (open_context context.now) ≤ length self.old.code }
         ensures { Emits result self.old self.new (statements.if_code line (scheme.expression_code self.old.locals test.now) (statements.block_code self.old.locals body.now) (open_context context.now)) }
     {
-        let spot = context.at_line(line)?;
+        let spot = self.at_line(context, line);
+        let up = self.above(spot, 1);
         self.expression(spot, test)?;
         let branch = self.here();
-        let up = spot.above(1)?;
         self.put_plain(up, Op::PopJumpIfFalse)?;
         self.block(context, body)?;
         self.jump_here(branch, up, Op::PopJumpIfFalse);
@@ -188,16 +197,17 @@ impl Emitter<'_> {
         body: &[Statement],
         other: &[Statement],
     ) -> Result<(), EmitFault>
+        requires { length (open_context context.now) ≤ length self.old.code }
         ensures { Emits result self.old self.new (statements.if_else_code line (scheme.expression_code self.old.locals test.now) (statements.block_code self.old.locals body.now) (statements.block_code self.old.locals other.now) (open_context context.now)) }
     {
-        let spot = context.at_line(line)?;
+        let spot = self.at_line(context, line);
+        let low = self.no_line(context);
+        let up = self.above(spot, 1);
         self.expression(spot, test)?;
         let branch = self.here();
-        let up = spot.above(1)?;
         self.put_plain(up, Op::PopJumpIfFalse)?;
         self.block(context, body)?;
         let jump = self.here();
-        let low = context.no_line()?;
         self.put_plain(low, Op::JumpForward)?;
         self.jump_here(branch, up, Op::PopJumpIfFalse);
         self.block(context, other)?;

@@ -6,15 +6,17 @@ ghost use Rattle.mon_compile.specs.declared.emitter.EmitFault.TheVariants.{Memor
 ghost use Rattle.mon_compile.specs.declared.assembly.Argument.TheVariants.{Number, Destination};
 ghost use Rattle.mon_compile.specs.declared.assembly.Label.TheVariants.{At};
 ghost use Rattle.mon_compile.specs.Contexts as spec;
-ghost use Rattle.mon_compile.specs.Emission.{Emits, emitted, one};
+ghost use Rattle.mon_compile.specs.Emission.{Counts, Emits, emitted, one};
 ghost use Rattle.mon_compile.specs.Expressions as scheme;
-ghost use Rattle.mon_compile.specs.Faults.{most_locations};
+ghost use Rattle.mon_compile.specs.Faults.{most_locals, most_locations};
 ghost use Rattle.mon_compile.specs.Open as opened;
+ghost use Rattle.mon_compile.specs.Open.{open_context};
 
 use crate::assembly::{Argument, Instruction, Label, Spot};
 use crate::codes::text;
 use crate::scope::{copy, is_local, number_of_local};
 use crate::settle::settle;
+use crate::surroundings::Surroundings;
 use mon_events::Op;
 use mon_shared::SharedItems;
 use mon_trees::Text;
@@ -59,7 +61,7 @@ impl<'a> Model for Emitter<'a> {
     ghost use Rattle.mon_compile.specs.Emission.{Emission};
     ghost use Rattle.mon_compile.specs.declared.assembly.Instruction.{Instruction as Made};
     ghost use Rattle.mon_compile.specs.contracts.assembly.Instruction as instruction;
-    ghost use Rattle.mon_compile.specs.Faults.{most_locations};
+    ghost use Rattle.mon_compile.specs.Faults.{most_locals, most_locations};
     ghost use Rattle.std.specs.Prelude.{ℕ, ◌≤◌, List, length, refl};
     ghost use Rattle.std.specs.Coded.{code_by, coded×, coded_list, coded_ℕ};
 
@@ -69,13 +71,14 @@ impl<'a> Model for Emitter<'a> {
 
     ghost view = { λ e. record { locals = e.locals.now; limit = e.limit; code = e.code.items } };
 
-    ghost invariant = { λ e. (length e.code.items ≤ e.limit) × (e.limit ≤ most_locations) };
+    ghost invariant = { λ e. (length e.code.items ≤ e.limit) × ((e.limit ≤ most_locations) × (length e.locals.now ≤ most_locals)) };
 }
 
 impl<'a> Emitter<'a> {
     /// No code yet, and at most so many instructions.
     pub fn new(alloc: Global, locals: &'a [Text], limit: usize) -> Self
-        requires { limit ≤ most_locations }
+        requires locals { length locals.now ≤ most_locals }
+        requires limit { limit ≤ most_locations }
         ensures { result ≡ record { locals = locals.now; limit = limit; code = [] } }
     {
         Emitter {
@@ -97,17 +100,90 @@ impl<'a> Emitter<'a> {
 
 impl Emitter<'_> {
     /// The index of the next instruction.
-    pub fn here(&self) -> usize
+    pub fn here(&self) -> u32
         ensures { result ≡ length self.now.code }
     {
-        self.code.len()
+        prove!(self.code.len() <= self.limit);
+        self.code.len() as u32
     }
 
     /// The number of a local.
-    pub fn local(&self, name: &Text) -> usize
+    pub fn local(&self, name: &Text) -> u32
         ensures { result ≡ scheme.number_of_local self.now.locals name.now }
     {
-        number_of_local(self.locals, name)
+        number_of_local(self.locals, name) as u32
+    }
+
+    /// How many values the code has pushed, beside one at most: no more than it has instructions.
+    pub fn count(&self, values: usize) -> u32
+        requires { values ≤ length self.now.code + 1 }
+        ensures count { result ≡ values }
+        ensures few { result ≤ most_locations + 1 }
+    {
+        prove!(self.code.len() <= self.limit);
+        values as u32
+    }
+
+    /// A count of instructions that are to come, or that they are too many.
+    pub fn room_for(&self, count: usize) -> Result<u32, EmitFault>
+        ensures { Counts result self.now.limit count }
+    {
+        if count > self.limit {
+            return Err(EmitFault::TooManyLocations);
+        }
+        Ok(count as u32)
+    }
+
+    /// How many entries there are, of which each has an instruction before it.
+    pub fn depth(&self, context: &Surroundings) -> u32
+        requires { length (open_context context.now) ≤ length self.now.code }
+        ensures { result ≡ length (open_context context.now) }
+    {
+        prove!(self.code.len() <= self.limit);
+        context.depth()
+    }
+
+    /// The spot of an instruction without a line, at the depths of these entries.
+    pub fn no_line(&self, context: &Surroundings) -> Spot
+        requires { length (open_context context.now) ≤ length self.now.code }
+        ensures spot { result ≡ spec.no_line (open_context context.now) }
+        ensures stack { result.stack ≤ length (open_context context.now) }
+        ensures handling { result.handling ≤ length (open_context context.now) }
+    {
+        prove!(self.code.len() <= self.limit);
+        context.no_line()
+    }
+
+    /// The same at a line.
+    pub fn at_line(&self, context: &Surroundings, line: u32) -> Spot
+        requires { length (open_context context.now) ≤ length self.now.code }
+        ensures spot { result ≡ spec.at_line line (open_context context.now) }
+        ensures stack { result.stack ≤ length (open_context context.now) }
+        ensures handling { result.handling ≤ length (open_context context.now) }
+        ensures few { length (open_context context.now) ≤ most_locations }
+    {
+        prove!(self.code.len() <= self.limit);
+        context.at_line(line)
+    }
+
+    /// The spot above n more values.
+    pub fn above(&self, spot: Spot, n: u32) -> Spot
+        requires spot { spot.stack ≤ length self.now.code }
+        requires few { n ≤ most_locations + 1 }
+        ensures spot { result ≡ spec.above n spot }
+        ensures few { spot.stack ≤ most_locations }
+    {
+        prove!(self.code.len() <= self.limit);
+        spot.above(n)
+    }
+
+    /// The spot beside one more exception.
+    pub fn beside(&self, spot: Spot) -> Spot
+        requires { spot.handling ≤ length self.now.code }
+        ensures { result ≡ spec.beside 1 spot }
+    {
+        prove!(self.code.len() <= self.limit);
+        spot.beside(1)
     }
 
     /// One more instruction.
@@ -137,7 +213,7 @@ impl Emitter<'_> {
     }
 
     /// One more instruction with a number.
-    pub fn put_number(&mut self, spot: Spot, op: Op, number: usize) -> Result<(), EmitFault>
+    pub fn put_number(&mut self, spot: Spot, op: Op, number: u32) -> Result<(), EmitFault>
         ensures { Emits result self.old self.new (one (spec.put spot op (Number number))) }
     {
         self.put(spot, op, Argument::Number(number))
@@ -178,7 +254,7 @@ impl Emitter<'_> {
         ensures { Emits result self.old self.new (scheme.name_code self.old.locals name.now spot) }
     {
         if is_local(self.locals, name) {
-            let number = number_of_local(self.locals, name);
+            let number = self.local(name);
             self.put_number(spot, Op::LoadFast, number)
         } else {
             let name = copy(self.alloc, name)?;
@@ -187,11 +263,11 @@ impl Emitter<'_> {
     }
 
     /// What stands at an index becomes a jump to another.
-    pub fn set_jump(&mut self, at: usize, spot: Spot, op: Op, to: usize)
+    pub fn set_jump(&mut self, at: u32, spot: Spot, op: Op, to: u32)
         requires { at < length self.old.code }
         ensures { self.new ≡ record self.old { code = slice_set self.old.code at (spec.put spot op (Destination (At to))) } }
     {
-        self.code[at] = Instruction {
+        self.code[at as usize] = Instruction {
             op,
             argument: Argument::Destination(Label::At(to)),
             spot,
@@ -199,22 +275,22 @@ impl Emitter<'_> {
     }
 
     /// What stands at an index becomes a jump to the end of the code.
-    pub fn jump_here(&mut self, at: usize, spot: Spot, op: Op)
+    pub fn jump_here(&mut self, at: u32, spot: Spot, op: Op)
         requires { at < length self.old.code }
         ensures { self.new ≡ record self.old { code = slice_set self.old.code at (spec.put spot op (Destination (At (length self.old.code)))) } }
     {
-        let end = self.code.len();
+        let end = self.here();
         self.set_jump(at, spot, op, end);
     }
 
     /// From an index on, an open label becomes the index so many instructions behind the end of the code.
     #[tactic(auto, using(crate::proofs::Settled::changed_length))]
-    pub fn settle_behind(&mut self, from: usize, unknown: Label, behind: usize)
+    pub fn settle_behind(&mut self, from: u32, unknown: Label, behind: u32)
         requires from { from ≤ length self.old.code }
         requires near { behind ≤ 3 }
         ensures { self.new ≡ record self.old { code = opened.changed_from (opened.settled unknown (length self.old.code + behind)) from self.old.code } }
     {
-        let done = self.code.len() + behind;
-        settle(&mut self.code, from, unknown, done);
+        let done = self.here() + behind;
+        settle(&mut self.code, from as usize, unknown, done);
     }
 }

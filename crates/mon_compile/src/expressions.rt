@@ -1,6 +1,6 @@
 //! The code of expressions.
 
-ghost use Rattle.std.specs.Prelude.{◌≡◌, [], ◌∷◌, ◌++◌, length, map};
+ghost use Rattle.std.specs.Prelude.{◌≡◌, ◌+◌, ◌≤◌, [], ◌∷◌, ◌++◌, length, map};
 ghost use Rattle.mon_events.specs.declared.op.Op.{Op};
 ghost use Rattle.mon_compile.specs.declared.assembly.Argument.TheVariants.{Number};
 ghost use Rattle.mon_compile.specs.Contexts as spec;
@@ -19,6 +19,7 @@ impl Emitter<'_> {
     /// The code of an expression, which pushes one value.
     #[cycle(expression)]
     pub fn expression(&mut self, spot: Spot, expression: &Expression) -> Result<(), EmitFault>
+        requires { spot.stack ≤ length self.old.code }
         ensures { Emits result self.old self.new (scheme.expression_code self.old.locals expression.now spot) }
     {
         match expression {
@@ -53,6 +54,7 @@ impl Emitter<'_> {
 
     // LOAD_CONST None; YIELD_VALUE; RESUME 1 (-)
     fn yield_none(&mut self, spot: Spot) -> Result<(), EmitFault>
+        requires { spot.stack ≤ length self.old.code }
         ensures { Emits result self.old self.new (scheme.yield_code (scheme.or_none None) spot) }
     {
         self.put_constant(spot, Value::None)?;
@@ -62,6 +64,7 @@ impl Emitter<'_> {
     // E(value); YIELD_VALUE; RESUME 1 (-)
     #[cycle(expression)]
     fn yield_value(&mut self, spot: Spot, value: &Expression) -> Result<(), EmitFault>
+        requires { spot.stack ≤ length self.old.code }
         ensures { Emits result self.old self.new (scheme.yield_code (scheme.expression_code self.old.locals value.now) spot) }
     {
         self.expression(spot, value)?;
@@ -70,9 +73,10 @@ impl Emitter<'_> {
 
     // YIELD_VALUE; RESUME 1 (-), above a value.
     fn put_yield(&mut self, spot: Spot) -> Result<(), EmitFault>
+        requires { spot.stack ≤ length self.old.code }
         ensures { Emits result self.old self.new (λ at. spec.put (spec.above 1 spot) Op.YieldValue spec.none ∷ (spec.put (spec.above 1 (spec.bare spot)) Op.Resume (Number 1) ∷ [])) }
     {
-        let up = spot.above(1)?;
+        let up = self.above(spot, 1);
         self.put_plain(up, Op::YieldValue)?;
         self.put_number(up.bare(), Op::Resume, 1)
     }
@@ -80,10 +84,12 @@ impl Emitter<'_> {
     // An operand, and then an operator.
     #[cycle(expression)]
     fn unary(&mut self, spot: Spot, op: Op, a: &Expression) -> Result<(), EmitFault>
+        requires { spot.stack ≤ length self.old.code }
         ensures { Emits result self.old self.new (scheme.one_code (scheme.expression_code self.old.locals a.now) op spot) }
     {
+        let up = self.above(spot, 1);
         self.expression(spot, a)?;
-        self.put_plain(spot.above(1)?, op)
+        self.put_plain(up, op)
     }
 
     // Two operands, and then an operator with a number.
@@ -92,16 +98,18 @@ impl Emitter<'_> {
         &mut self,
         spot: Spot,
         op: Op,
-        number: usize,
+        number: u32,
         a: &Expression,
         b: &Expression,
     ) -> Result<(), EmitFault>
+        requires { spot.stack ≤ length self.old.code }
         ensures { Emits result self.old self.new (scheme.two_code (scheme.expression_code self.old.locals a.now) (scheme.expression_code self.old.locals b.now) op number spot) }
     {
+        let up = self.above(spot, 1);
+        let higher = self.above(spot, 2);
         self.expression(spot, a)?;
-        let up = spot.above(1)?;
         self.expression(up, b)?;
-        self.put_number(spot.above(2)?, op, number)?;
+        self.put_number(higher, op, number)?;
         Ok(())
     }
 
@@ -114,6 +122,7 @@ impl Emitter<'_> {
         a: &Expression,
         b: &Expression,
     ) -> Result<(), EmitFault>
+        requires { spot.stack ≤ length self.old.code }
         ensures { Emits result self.old self.new (scheme.two_code (scheme.expression_code self.old.locals a.now) (scheme.expression_code self.old.locals b.now) (scheme.comparison_op op) (scheme.comparison_number op) spot) }
     {
         self.binary(spot, comparison_op(op), comparison_number(op), a, b)
@@ -125,25 +134,29 @@ impl Emitter<'_> {
         &mut self,
         spot: Spot,
         a: &Expression,
-        number: usize,
+        number: u32,
         single: Single,
     ) -> Result<(), EmitFault>
+        requires { spot.stack ≤ length self.old.code }
         ensures { Emits result self.old self.new (scheme.two_code (scheme.expression_code self.old.locals a.now) (scheme.constant_code (scheme.single_value single)) Op.IsOp number spot) }
     {
+        let up = self.above(spot, 1);
+        let higher = self.above(spot, 2);
         self.expression(spot, a)?;
-        self.put_constant(spot.above(1)?, single_value(single))?;
-        self.put_number(spot.above(2)?, Op::IsOp, number)
+        self.put_constant(up, single_value(single))?;
+        self.put_number(higher, Op::IsOp, number)
     }
 
     // Expressions one after another, each above the values of those before.
     #[cycle(expression)]
     fn expressions(&mut self, spot: Spot, expressions: &[Expression]) -> Result<(), EmitFault>
+        requires { spot.stack ≤ length self.old.code }
         ensures { Emits result self.old self.new (scheme.in_turn (map (scheme.expression_code self.old.locals) expressions.now) spot) }
     {
         let mut up = spot;
         for expression in expressions {
             self.expression(up, expression)?;
-            up = up.above(1)?;
+            up = self.above(up, 1);
         }
         Ok(())
     }
@@ -151,19 +164,23 @@ impl Emitter<'_> {
     // E of each; BUILD_TUPLE n
     #[cycle(expression)]
     fn tuple(&mut self, spot: Spot, parts: &[Expression]) -> Result<(), EmitFault>
+        requires { spot.stack ≤ length self.old.code }
         ensures { Emits result self.old self.new (scheme.tuple_code (map (scheme.expression_code self.old.locals) parts.now) spot) }
     {
         self.expressions(spot, parts)?;
-        self.put_number(spot.above(parts.len())?, Op::BuildTuple, parts.len())
+        let count = self.count(parts.len());
+        let up = self.above(spot, count);
+        self.put_number(up, Op::BuildTuple, count)
     }
 
     // E(f); E of each; CALL n
     #[cycle(expression)]
     fn call(&mut self, spot: Spot, f: &Expression, args: &[Expression]) -> Result<(), EmitFault>
+        requires { spot.stack ≤ length self.old.code }
         ensures { Emits result self.old self.new (scheme.call_code (scheme.expression_code self.old.locals f.now) (map (scheme.expression_code self.old.locals) args.now) spot) }
     {
+        let up = self.above(spot, 1);
         self.expression(spot, f)?;
-        let up = spot.above(1)?;
         self.arguments(up, args, args.len())?;
         Ok(())
     }
@@ -177,12 +194,13 @@ impl Emitter<'_> {
         method: Method,
         args: &[Expression],
     ) -> Result<(), EmitFault>
+        requires { spot.stack ≤ length self.old.code }
         ensures { Emits result self.old self.new (scheme.method_code (scheme.expression_code self.old.locals object.now) (scheme.method_number method) (map (scheme.expression_code self.old.locals) args.now) spot) }
     {
+        let up = self.above(spot, 1);
+        let higher = self.above(spot, 2);
         self.expression(spot, object)?;
-        let up = spot.above(1)?;
         self.put_number(up, Op::LoadMethod, method_number(method))?;
-        let higher = spot.above(2)?;
         self.arguments(higher, args, args.len() + 1)?;
         Ok(())
     }
@@ -190,10 +208,15 @@ impl Emitter<'_> {
     // E of each; CALL with a count
     #[cycle(expression)]
     fn arguments(&mut self, spot: Spot, args: &[Expression], count: usize) -> Result<(), EmitFault>
+        requires spot { spot.stack ≤ length self.old.code }
+        requires near { count ≤ length args.now + 1 }
         ensures { Emits result self.old self.new (λ at. scheme.in_turn (map (scheme.expression_code self.old.locals) args.now) spot at ++ (spec.put (spec.above (length args.now) spot) Op.Call (Number count) ∷ [])) }
     {
         self.expressions(spot, args)?;
-        self.put_number(spot.above(args.len())?, Op::Call, count)
+        let values = self.count(args.len());
+        let up = self.above(spot, values);
+        let number = self.count(count);
+        self.put_number(up, Op::Call, number)
     }
 
     // E(a); COPY 1; the jump to x; POP_TOP; E(b); x:
@@ -205,11 +228,12 @@ impl Emitter<'_> {
         jump: Op,
         b: &Expression,
     ) -> Result<(), EmitFault>
+        requires { spot.stack ≤ length self.old.code }
         ensures { Emits result self.old self.new (scheme.short_code (scheme.expression_code self.old.locals a.now) (scheme.expression_code self.old.locals b.now) jump spot) }
     {
+        let up = self.above(spot, 1);
+        let higher = self.above(spot, 2);
         self.expression(spot, a)?;
-        let up = spot.above(1)?;
-        let higher = spot.above(2)?;
         self.put_number(up, Op::Copy, 1)?;
         let hole = self.here();
         self.put_plain(higher, jump)?;
@@ -228,11 +252,12 @@ impl Emitter<'_> {
         test: &Expression,
         b: &Expression,
     ) -> Result<(), EmitFault>
+        requires { spot.stack ≤ length self.old.code }
         ensures { Emits result self.old self.new (scheme.conditional_code (scheme.expression_code self.old.locals a.now) (scheme.expression_code self.old.locals test.now) (scheme.expression_code self.old.locals b.now) spot) }
     {
-        self.expression(spot, test)?;
-        let up = spot.above(1)?;
+        let up = self.above(spot, 1);
         let low = up.bare();
+        self.expression(spot, test)?;
         let branch = self.here();
         self.put_plain(up, Op::PopJumpIfFalse)?;
         self.expression(spot, a)?;
@@ -259,7 +284,7 @@ pub fn single_value(single: Single) -> Value
 }
 
 /// The argument of `BINARY_OP`.
-pub fn binary_number(op: BinaryOperator) -> usize
+pub fn binary_number(op: BinaryOperator) -> u32
     ensures { result ≡ scheme.binary_number op }
 {
     let op = match op {
@@ -269,7 +294,7 @@ pub fn binary_number(op: BinaryOperator) -> usize
         BinaryOperator::FloorDivide => ArithOp::FloorDiv,
         BinaryOperator::Remainder => ArithOp::Mod,
     };
-    arith_number(op) as usize
+    arith_number(op)
 }
 
 fn comparison_op(op: Comparison) -> Op
@@ -281,23 +306,23 @@ fn comparison_op(op: Comparison) -> Op
     }
 }
 
-fn comparison_number(op: Comparison) -> usize
+fn comparison_number(op: Comparison) -> u32
     ensures { result ≡ scheme.comparison_number op }
 {
     match op {
-        Comparison::Equal => cmp_number(CmpOp::Eq) as usize,
-        Comparison::NotEqual => cmp_number(CmpOp::Ne) as usize,
-        Comparison::Less => cmp_number(CmpOp::Lt) as usize,
-        Comparison::LessEqual => cmp_number(CmpOp::Le) as usize,
-        Comparison::Greater => cmp_number(CmpOp::Gt) as usize,
-        Comparison::GreaterEqual => cmp_number(CmpOp::Ge) as usize,
+        Comparison::Equal => cmp_number(CmpOp::Eq),
+        Comparison::NotEqual => cmp_number(CmpOp::Ne),
+        Comparison::Less => cmp_number(CmpOp::Lt),
+        Comparison::LessEqual => cmp_number(CmpOp::Le),
+        Comparison::Greater => cmp_number(CmpOp::Gt),
+        Comparison::GreaterEqual => cmp_number(CmpOp::Ge),
         Comparison::In => 0,
         Comparison::NotIn => 1,
     }
 }
 
 // The numbers of the builtins `send`, `throw` and `close`.
-fn method_number(method: Method) -> usize
+fn method_number(method: Method) -> u32
     ensures { result ≡ scheme.method_number method }
 {
     match method {

@@ -1,9 +1,9 @@
 //! The code of a function.
 
-ghost use Rattle.std.specs.Prelude.{◌≡◌, ◌≤◌};
+ghost use Rattle.std.specs.Prelude.{◌≡◌, ◌≤◌, length};
 ghost use Rattle.mon_compile.specs.Answered.{AnswersCode};
 ghost use Rattle.mon_compile.specs.Emission.{Emits};
-ghost use Rattle.mon_compile.specs.Faults.{most_locations};
+ghost use Rattle.mon_compile.specs.Faults.{most_locals, most_locations};
 ghost use Rattle.mon_compile.specs.Functions as spec;
 
 use crate::assembly::Instruction;
@@ -24,6 +24,7 @@ pub fn function_code(
     limit: usize,
 ) -> Result<Vec<Instruction>, EmitFault>
     requires locals { locals.now ≡ spec.locals_of function.now }
+    requires few_locals { length locals.now ≤ most_locals }
     requires limit { limit ≤ most_locations }
     ensures { AnswersCode result limit function.now }
 {
@@ -39,10 +40,10 @@ impl Emitter<'_> {
     fn start(&mut self, generates: bool) -> Result<(), EmitFault>
         ensures { Emits result self.old self.new (λ at. spec.start_code generates) }
     {
-        let spot = Surroundings::Top.no_line()?;
+        let spot = Surroundings::Top.no_line();
         if generates {
             self.put_plain(spot, Op::ReturnGenerator)?;
-            self.put_plain(spot.above(1)?, Op::PopTop)?;
+            self.put_plain(spot.above(1), Op::PopTop)?;
         }
         self.put_number(spot, Op::Resume, 0)
     }
@@ -51,8 +52,8 @@ impl Emitter<'_> {
     fn end(&mut self) -> Result<(), EmitFault>
         ensures { Emits result self.old self.new (λ at. spec.end_code) }
     {
-        let spot = Surroundings::Top.no_line()?;
+        let spot = Surroundings::Top.no_line();
         self.put_constant(spot, Value::None)?;
-        self.put_plain(spot.above(1)?, Op::ReturnValue)
+        self.put_plain(spot.above(1), Op::ReturnValue)
     }
 }

@@ -2,7 +2,8 @@
 
 ghost use Rattle.std.specs.Prelude.{◌≡◌, ◌≤◌, [], ◌∷◌, length, map, IfOk};
 ghost use Rattle.mon_compile.specs.Answered.{AddsCodes, AnswersCompiled, ListsCodes};
-ghost use Rattle.mon_compile.specs.Faults.{most_locations};
+ghost use Rattle.mon_compile.specs.Faults.{FewLocals, most_locals, most_locations};
+ghost use Rattle.mon_compile.specs.Functions.{locals_of};
 ghost use Rattle.mon_compile.specs.Modules as spec;
 
 use crate::bindings::locals;
@@ -52,6 +53,7 @@ pub fn compile(alloc: Global, module: &Module) -> Result<(Program, Vec<u8>), Com
 
 // The codes of a module's functions, unless they have too many locations.
 fn list_codes(alloc: Global, items: &[ModuleItem]) -> Result<Listing, CompileFault>
+    requires { FewLocals (spec.functions_of items.now) }
     ensures { ListsCodes result (spec.functions_of items.now) }
 {
     let mut listing = Listing {
@@ -65,7 +67,8 @@ fn list_codes(alloc: Global, items: &[ModuleItem]) -> Result<Listing, CompileFau
 }
 
 fn add_item(alloc: Global, listing: &mut Listing, item: &ModuleItem) -> Result<(), CompileFault>
-    requires { length listing.old.bases.items ≤ most_locations }
+    requires few_locations { length listing.old.bases.items ≤ most_locations }
+    requires few_locals { FewLocals (spec.functions_of (item.now ∷ [])) }
     ensures { AddsCodes result listing.old listing.new (spec.functions_of (item.now ∷ [])) }
 {
     match item {
@@ -79,7 +82,8 @@ fn add_function(
     listing: &mut Listing,
     function: &Function,
 ) -> Result<(), CompileFault>
-    requires { length listing.old.bases.items ≤ most_locations }
+    requires few_locations { length listing.old.bases.items ≤ most_locations }
+    requires few_locals { length (locals_of function.now) ≤ most_locals }
     ensures { AddsCodes result listing.old listing.new (function.now ∷ []) }
 {
     let locals = locals(alloc, function)?;
@@ -90,7 +94,7 @@ fn add_function(
         alloc,
         function,
         locals.as_slice(),
-        first,
+        first as u32,
         instructions.as_slice(),
     )?;
     listing.codes.push(code)?;

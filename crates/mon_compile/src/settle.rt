@@ -6,7 +6,7 @@ ghost use Rattle.mon_compile.specs.Open as opened;
 
 use crate::assembly::{Argument, Handler, Instruction, Label};
 
-fn settled(label: Label, unknown: Label, done: usize) -> Label
+fn settled(label: Label, unknown: Label, done: u32) -> Label
     ensures { result ≡ opened.settle_label unknown done label }
 {
     match (unknown, label) {
@@ -18,7 +18,7 @@ fn settled(label: Label, unknown: Label, done: usize) -> Label
     }
 }
 
-fn settled_handler(handler: Option<Handler>, unknown: Label, done: usize) -> Option<Handler>
+fn settled_handler(handler: Option<Handler>, unknown: Label, done: u32) -> Option<Handler>
     ensures { result ≡ moves.moved_handler (opened.settle_label unknown done) handler }
 {
     match handler {
@@ -30,7 +30,7 @@ fn settled_handler(handler: Option<Handler>, unknown: Label, done: usize) -> Opt
     }
 }
 
-fn settle_one(instruction: &mut Instruction, unknown: Label, done: usize)
+fn settle_one(instruction: &mut Instruction, unknown: Label, done: u32)
     ensures { instruction.new ≡ opened.settled unknown done instruction.old }
 {
     if let Argument::Destination(label) = instruction.argument {
@@ -41,7 +41,7 @@ fn settle_one(instruction: &mut Instruction, unknown: Label, done: usize)
 
 /// Writes an index for an open label, in the instructions from an index on.
 #[tactic(auto, using(crate::proofs::Settled::change_one, crate::proofs::Settled::changed_end))]
-pub fn settle(code: &mut Vec<Instruction>, from: usize, unknown: Label, done: usize)
+pub fn settle(code: &mut Vec<Instruction>, from: usize, unknown: Label, done: u32)
     requires { from ≤ length code.old.items }
     ensures { code.new.items ≡ opened.changed_from (opened.settled unknown done) from code.old.items }
 {

@@ -1,11 +1,12 @@
 //! The code of statements without a block.
 
-ghost use Rattle.std.specs.Prelude.{◌≡◌, ◌+◌, [], ◌∷◌, ◌++◌};
+ghost use Rattle.std.specs.Prelude.{◌≡◌, ◌+◌, ◌≤◌, [], ◌∷◌, ◌++◌, length};
 ghost use Rattle.mon_events.specs.declared.op.Op.{Op};
 ghost use Rattle.mon_compile.specs.declared.assembly.Argument.TheVariants.{Number};
 ghost use Rattle.mon_compile.specs.Contexts as spec;
 ghost use Rattle.mon_compile.specs.Emission.{Emits};
 ghost use Rattle.mon_compile.specs.Expressions as scheme;
+ghost use Rattle.mon_compile.specs.Faults.{most_locations};
 ghost use Rattle.mon_compile.specs.Open.{open_context};
 ghost use Rattle.mon_compile.specs.Statements as statements;
 
@@ -33,9 +34,10 @@ impl Emitter<'_> {
         line: u32,
         simple: &Simple,
     ) -> Result<(), EmitFault>
+        requires { length (open_context context.now) ≤ length self.old.code }
         ensures { Emits result self.old self.new (statements.simple_code self.old.locals line simple.now (open_context context.now)) }
     {
-        let spot = context.at_line(line)?;
+        let spot = self.at_line(context, line);
         match simple {
             Simple::Pass => self.put_plain(spot, Op::Nop),
             Simple::Break => self.break_loop(context, line),
@@ -66,11 +68,12 @@ impl Emitter<'_> {
 
     // The value on top is returned: leave all entries; RETURN_VALUE
     fn leave_function(&mut self, context: &Surroundings, line: u32) -> Result<(), EmitFault>
+        requires { length (open_context context.now) ≤ most_locations }
         ensures { Emits result self.old self.new (λ at. statements.leave_all (open_context context.now) at ++ (spec.put (spec.above 1 (spec.at_line line [])) Op.ReturnValue spec.none ∷ [])) }
     {
         self.leave_all(context)?;
-        let spot = Surroundings::Top.at_line(line)?;
-        self.put_plain(spot.above(1)?, Op::ReturnValue)
+        let spot = Surroundings::Top.at_line(line);
+        self.put_plain(spot.above(1), Op::ReturnValue)
     }
 
     /// An expression, and then one instruction with a number.
@@ -79,12 +82,14 @@ impl Emitter<'_> {
         spot: Spot,
         expression: &Expression,
         op: Op,
-        number: usize,
+        number: u32,
     ) -> Result<(), EmitFault>
+        requires { spot.stack ≤ length self.old.code }
         ensures { Emits result self.old self.new (λ at. scheme.expression_code self.old.locals expression.now spot at ++ (spec.put (spec.above 1 spot) op (Number number) ∷ [])) }
     {
+        let up = self.above(spot, 1);
         self.expression(spot, expression)?;
-        self.put_number(spot.above(1)?, op, number)
+        self.put_number(up, op, number)
     }
 
     // LOAD_FAST n; E(e); BINARY_OP op; STORE_FAST n
@@ -95,29 +100,33 @@ impl Emitter<'_> {
         op: BinaryOperator,
         expression: &Expression,
     ) -> Result<(), EmitFault>
+        requires { spot.stack ≤ length self.old.code }
         ensures { Emits result self.old self.new (λ at. spec.put spot Op.LoadFast (Number (scheme.number_of_local self.old.locals name.now)) ∷ (scheme.expression_code self.old.locals expression.now (spec.above 1 spot) (at + 1) ++ (spec.put (spec.above 2 spot) Op.BinaryOp (Number (scheme.binary_number op)) ∷ (spec.put (spec.above 1 spot) Op.StoreFast (Number (scheme.number_of_local self.old.locals name.now)) ∷ [])))) }
     {
         let local = self.local(name);
+        let up = self.above(spot, 1);
+        let higher = self.above(spot, 2);
         self.put_number(spot, Op::LoadFast, local)?;
-        let up = spot.above(1)?;
         self.expression(up, expression)?;
-        self.put_number(spot.above(2)?, Op::BinaryOp, binary_number(op))?;
+        self.put_number(higher, Op::BinaryOp, binary_number(op))?;
         self.put_number(up, Op::StoreFast, local)?;
         Ok(())
     }
 
     /// The value above a spot goes into what is assigned to.
     pub fn store(&mut self, spot: Spot, targets: &Targets) -> Result<(), EmitFault>
+        requires { spot.stack ≤ length self.old.code }
         ensures { Emits result self.old self.new (λ at. scheme.store_code self.old.locals targets.now spot) }
     {
-        let up = spot.above(1)?;
+        let up = self.above(spot, 1);
         match targets {
             Targets::Name(name) => {
                 let local = self.local(name);
                 self.put_number(up, Op::StoreFast, local)
             }
             Targets::Tuple(names) => {
-                self.put_number(up, Op::UnpackSequence, names.len())?;
+                let count = self.room_for(names.len())?;
+                self.put_number(up, Op::UnpackSequence, count)?;
                 self.store_names(spot, names.as_slice())
             }
         }
@@ -125,12 +134,15 @@ impl Emitter<'_> {
 
     // The names of a tuple, the first on top.
     fn store_names(&mut self, spot: Spot, names: &[Text]) -> Result<(), EmitFault>
+        requires spot { spot.stack ≤ most_locations }
+        requires names { length names.now ≤ most_locations }
         ensures { Emits result self.old self.new (λ at. scheme.store_names self.old.locals names.now spot) }
     {
         let mut left = names;
         while let Some((name, others)) = left.split_first() {
             let local = self.local(name);
-            self.put_number(spot.above(left.len())?, Op::StoreFast, local)?;
+            let up = spot.above(left.len() as u32);
+            self.put_number(up, Op::StoreFast, local)?;
             left = others;
         }
         Ok(())

@@ -1,7 +1,5 @@
 -- What a change of one tool's bits means for the configuration.
 use Rattle.std.proofs.Common.{◌≡◌, ℕ, zero, suc, ◌^◌, ◌<◌, ◌≤◌, false, cond, eqb, List, [], ◌∷◌, length, get_or, set, Option, refl, sym, ap, ◌∙◌, subst, arith, eq-eqb, ne_eqb, get_or-set_same, get_or-set_other, length-set}
-use Rattle.std.specs.Int.{bit_at}
-use Rattle.std.proofs.lemmas.Nat.Bits.{bit_at-pow_same, bit_at-pow_other}
 use mathlib.Core.Logic.{dite}
 use native.Mathlib.Decide.{ℕ_discrete, dec_le}
 use Rattle.mon_events.specs.Events.{bit}
@@ -14,7 +12,6 @@ use Rattle.mon_history.specs.Kept.{config_of, set_at, no_tool, no_set, IsTool, I
 use Rattle.mon_history.specs.declared.calls.Policy.{Policy}
 use Rattle.mon_history.specs.declared.config.Config.{Config}
 use Rattle.mon_history.specs.declared.config.Tool.{Tool}
-use Rattle.mon_events.proofs.Listed.{bit_lt}
 use Rattle.mon_instrument.proofs.Numbers.{any_default}
 
 -- a field of the tools after one tool was replaced
@@ -58,20 +55,13 @@ module _ (c : Config) (t : ℕ) (x d : Tool) (six : length c.tools ≡ 6) (low :
       let q' : (n : ℕ) → has (get_or (set c.tools t x) n no_tool).wants.0 ≡ put (config_of c).wants t (has a.0) n = λ n. q n ∙ ap (λ (z : Tool). put (config_of c).wants t (has z.wants.0) n) e in
       λ i. record { tools = λ n. p n i; wants = λ n. q' n i; local = (config_of c).local; calls = λ n v. get_or (s n i) (bit v) Policy.Nothing; off = λ l s u. false }
 
-  pub changes_policy : (ev : Event) (j : ℕ) (a : Policy) → j ≡ bit ev → length (get_or c.tools t d).policies ≡ 17 → x ≡ record (get_or c.tools t d) { policies = set (get_or c.tools t d).policies j a }
-      → config_of (record c { tools = set c.tools t x }) ≡ record (config_of c) { calls = put (config_of c).calls t (λ v. cond (has (2 ^ bit ev) v) a ((config_of c).calls t v)) }
-  changes_policy ev j a is long e =
+  pub changes_policy : (w : ℕ) (a : Policy) (next : List Policy) → ((v : Event) → get_or next (bit v) Policy.Nothing ≡ cond (has w v) a (get_or (get_or c.tools t d).policies (bit v) Policy.Nothing)) → x ≡ record (get_or c.tools t d) { policies = next }
+      → config_of (record c { tools = set c.tools t x }) ≡ record (config_of c) { calls = put (config_of c).calls t (λ v. cond (has w v) a ((config_of c).calls t v)) }
+  changes_policy w a next g e =
       let p = same (λ z. z.name) (ap (λ (z : Tool). z.name) e) in let q = same (λ z. z.wants) (ap (λ (z : Tool). z.wants) e) in
       let s = field_put calls_of c.tools t x within in
-      let old : List Policy = (get_or c.tools t d).policies in
-      let g : (v : Event) → get_or (set old j a) (bit v) Policy.Nothing ≡ cond (has (2 ^ bit ev) v) a (get_or old (bit v) Policy.Nothing) = λ v. dite (ℕ_discrete (bit v) (bit ev))
-      (λ y. let l = bit_lt v in
-      subst (λ z. get_or (set old z a) (bit v) Policy.Nothing ≡ a) (y ∙ sym is) (get_or-set_same old (bit v) a Policy.Nothing (omega arith))
-      ∙ sym (ap (λ b. cond (eqb b 1) a (get_or old (bit v) Policy.Nothing)) (ap (bit_at (2 ^ bit ev)) y ∙ bit_at-pow_same (bit ev))))
-      (λ ne. get_or-set_other old j (bit v) a Policy.Nothing (λ y. ne (y ∙ is))
-      ∙ sym (ap (λ b. cond (eqb b 1) a (get_or old (bit v) Policy.Nothing)) (bit_at-pow_other (bit ev) (bit v) ne))) in
-      let w : calls_of x ≡ (λ v. cond (has (2 ^ bit ev) v) a ((config_of c).calls t v)) = ap calls_of e ∙ ((λ i v. g v i) ∙ ap (λ (z : Tool). λ (v : Event). cond (has (2 ^ bit ev) v) a (get_or z.policies (bit v) Policy.Nothing)) same_tool) in
-      let s' : (n : ℕ) → calls_of (get_or (set c.tools t x) n no_tool) ≡ put (config_of c).calls t (λ v. cond (has (2 ^ bit ev) v) a ((config_of c).calls t v)) n = λ n. s n ∙ ap (λ z. put (config_of c).calls t z n) w in
+      let u : calls_of x ≡ (λ v. cond (has w v) a ((config_of c).calls t v)) = ap calls_of e ∙ ((λ i v. g v i) ∙ ap (λ (z : Tool). λ (v : Event). cond (has w v) a (get_or z.policies (bit v) Policy.Nothing)) same_tool) in
+      let s' : (n : ℕ) → calls_of (get_or (set c.tools t x) n no_tool) ≡ put (config_of c).calls t (λ v. cond (has w v) a ((config_of c).calls t v)) n = λ n. s n ∙ ap (λ z. put (config_of c).calls t z n) u in
       λ i. record { tools = λ n. p n i; wants = λ n v. has (q n i).0 v; local = (config_of c).local; calls = λ n. s' n i; off = λ l s u. false }
 
   pub keeps_tools : (codes : ℕ) → IsKept codes c → (IsTool (get_or c.tools t d) → IsTool x) → IsKept codes (record c { tools = set c.tools t x })
@@ -84,9 +74,6 @@ module _ (c : Config) (t : ℕ) (x d : Tool) (six : length c.tools ≡ 6) (low :
     wide = k.wide;
     rows = k.rows;
   }
-
-  pub long : (codes : ℕ) → IsKept codes c → length (get_or c.tools t d).policies ≡ 17
-  long codes k = ap (λ (z : Tool). length z.policies) same_tool ∙ (k.tools t low).policies
 
 module _ (rows : List (List EventSet)) (t code : ℕ) (a : EventSet) (width : ℕ) (wide : length rows ≡ width) (six : (k : ℕ) → k < width → length (get_or rows k []) ≡ 6) (low : t < 6) (within : code < width) where
   row : List EventSet

@@ -1,5 +1,5 @@
 -- What calls leave: the journal, and the words in a stopped world.
-use Rattle.std.proofs.Common.{◌≡◌, ℕ, zero, suc, ◌-◌, ◌<◌, ◌≤◌, ◌++◌, Bool, true, false, ◌&&◌, ◌||◌, cond, eqb, List, [], ◌∷◌, map, take, length, get_or, set, Option, Some, None, slice_get, refl, sym, ap, ◌∙◌, subst, arith, eq-eqb, ne_eqb, get_or-set_same, get_or-set_other, nat_abs}
+use Rattle.std.proofs.Common.{◌≡◌, ℕ, zero, suc, ◌-◌, ◌/◌, ◌%◌, ◌<◌, ◌≤◌, ◌++◌, Bool, true, false, ◌&&◌, ◌||◌, cond, eqb, List, [], ◌∷◌, map, take, length, get_or, set, Option, Some, None, slice_get, refl, sym, ap, ◌∙◌, subst, arith, eq-eqb, ne_eqb, get_or-set_same, get_or-set_other, nat_abs}
 use Rattle.std.specs.Prelude.{Result, Ok, Err, OnOk, OnErr}
 use Rattle.std.proofs.lemmas.List.{take_all}
 use mathlib.Core.Logic.{dite}
@@ -18,7 +18,8 @@ use Rattle.mon_history.specs.Configuration.{Configuration, nothing, put}
 use Rattle.mon_history.specs.Registry.{reply, next, change, stops}
 use Rattle.mon_history.specs.Journal.{replay, IsLawful, stopping, if_stopped}
 use Rattle.mon_history.specs.Histories.{config_after, entries}
-use Rattle.mon_history.specs.Stands.{wants_bit, BoardOf, StandsFor, counts_with}
+use Rattle.mon_history.specs.Stands.{wants_bit, BoardOf, StandsFor, counts_with, globals, callbacks, global_event}
+use Rattle.mon_events.specs.Sets.{packed}
 use Rattle.mon_code.specs.Sites.{slot_event}
 use Rattle.mon_history.specs.Kept.{config_of, IsKept}
 use Rattle.mon_history.specs.declared.calls.ControlCall.{ControlCall}
@@ -29,7 +30,7 @@ use Rattle.mon_history.specs.declared.journal.JournalLine.{JournalLine}
 use Rattle.mon_history.proofs.Boards.{boards}
 use Rattle.mon_history.proofs.Growing.{lawful_more, replay-more, stands_more}
 use Rattle.mon_history.proofs.Replays.{SameSets, change_same, sets_same}
-use Rattle.mon_instrument.specs.Due.{IsLaidOut, Walked, Worded, reached_cell, is_reached, chosen, differs, walked_also}
+use Rattle.mon_instrument.specs.Due.{IsLaidOut, Walked, Worded, reached_cell, is_reached, chosen, differs, walked_also, callback_words}
 use Rattle.mon_instrument.proofs.Chosen.{chosen_same}
 use Rattle.mon_instrument.specs.declared.walking.Reach.{Reach}
 use Rattle.mon_instrument.proofs.Standing.{LivesAre, Stays, lives_kept, lives_all, all_stay, wanted_as, board_after}
@@ -129,6 +130,22 @@ stays_of sites (ControlCall.GetLocalEvents id code) C D b o s = quiet_stays site
 stays_of sites (ControlCall.RegisterCallback id set policy) C D b o s = quiet_stays sites Reach.Nowhere C D b o (λ l t e _. kept_sets C (change (ControlCall.RegisterCallback id set policy) D) s t (site_at sites l).code e)
 stays_of sites ControlCall.RestartEvents C D b o s = all_stay sites true C b
 
+-- two lists of equal length with the same items
+same_items : (xs ys : List ℕ) → length xs ≡ length ys → ((t : ℕ) → t < length xs → get_or xs t 0 ≡ get_or ys t 0) → xs ≡ ys
+same_items [] [] l h = refl
+same_items [] (y ∷ ys) l h = absurd (omega arith)
+same_items (x ∷ xs) [] l h = absurd (omega arith)
+same_items (x ∷ xs) (y ∷ ys) l h = let a : x ≡ y = h 0 (omega arith) in let b = same_items xs ys (omega arith) (λ t k. h (suc t) (omega arith)) in λ i. a i ∷ b i
+
+callback_at : (C : Configuration) (t : ℕ) → t < 6 → get_or (callback_words C) t 0 ≡ callbacks C t
+callback_at C zero h = refl
+callback_at C (suc zero) h = refl
+callback_at C (suc (suc zero)) h = refl
+callback_at C (suc (suc (suc zero))) h = refl
+callback_at C (suc (suc (suc (suc zero)))) h = refl
+callback_at C (suc (suc (suc (suc (suc zero))))) h = refl
+callback_at C (suc (suc (suc (suc (suc (suc t)))))) h = absurd (omega arith)
+
 -- a call in a stopped world
 module _ (p : Parts) (threads : ℕ) (J : List JournalLine) (who : Who) (call : ControlCall) (counts : List ℕ) (C : Configuration) (h0 h1 : Halt)
     (lawful : IsLawful threads J) (stop : stops (replay J) call ≡ true) (changes : C ≡ change call (replay J)) (wide : length counts ≡ threads)
@@ -144,6 +161,19 @@ module _ (p : Parts) (threads : ℕ) (J : List JournalLine) (who : Who) (call : 
 
   pub laid_now : IsLaidOut (sites_of p) h1.board
   laid_now = laid_of (sites_of p) (config_after J (entries 0 h0.seen)) h1.board old
+
+  -- the words that stand are those of the configuration before the call
+  sets : SameSets (replay J) (config_after J (entries 0 h0.seen))
+  sets = sets_same (sites_of p) J h0.first h0.seen stands threads lawful
+
+  pub global_now : (word : ℕ) → word ≡ globals (replay J) → h1.board.global ≡ word
+  global_now word is = old.global_is ∙ sym (is ∙ ap (λ f. packed (λ k. f (k % 6) (global_event (k / 6))) 30) sets.wants)
+
+  pub callbacks_now : (words : List ℕ) → words ≡ callback_words (replay J) → h1.board.callbacks ≡ words
+  callbacks_now words is =
+      let six = old.six in
+      same_items h1.board.callbacks (callback_words (config_after J (entries 0 h0.seen))) old.six (λ t low. old.callbacks_are t (omega arith) ∙ sym (callback_at (config_after J (entries 0 h0.seen)) t (omega arith)))
+      ∙ sym (is ∙ ap (λ f. callback_words (record (replay J) { calls = f })) sets.calls)
 
   pub lawful_now : ((t : ℕ) → t < threads → UpTo t (get_or counts t 0) h0.seen) → IsLawful threads (J ++ line_of J who call (Some counts) ∷ [])
   lawful_now high = lawful_more threads J (line_of J who call (Some counts)) lawful (record {

@@ -1,7 +1,7 @@
 pub mod Taken
 pub mod Kept
 pub mod Changing
-pub mod Singles
+pub mod Policies
 pub mod Accepting
 pub mod Committing
 pub mod Beginning

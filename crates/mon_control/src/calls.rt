@@ -10,7 +10,7 @@ use crate::changes::{set_local, set_policy, set_wants};
 use crate::due::{due_reply, policy_of};
 use crate::replies::refusal;
 use crate::sets::tool_of;
-use mon_events::{EventSet, normal, single};
+use mon_events::{EventSet, normal};
 use mon_history::{Config, ControlCall, Policy, Reply};
 use mon_instrument::Reach;
 use std::alloc::AllocError;
@@ -53,17 +53,12 @@ fn change_local(config: &mut Config, id: i64, code: u16, set: EventSet)
 
 fn change_policy(config: &mut Config, id: i64, set: EventSet, policy: Policy)
     requires tool { is_some (registry.tool id) ≡ true }
-    requires one { is_some (spec.single set.0) ≡ true }
-    requires kept { (codes : ℕ) × IsKept codes config.old }
     ensures change { config_of config.new ≡ registry.change (Call.RegisterCallback id set policy) (config_of config.old) }
     ensures kept { (codes : ℕ) → IsKept codes config.old → IsKept codes config.new }
 {
     match tool_of(id) {
         None => {}
-        Some(tool) => match single(set) {
-            None => {}
-            Some(event) => set_policy(config, tool, event, policy),
-        },
+        Some(tool) => set_policy(config, tool, set, policy),
     }
 }
 

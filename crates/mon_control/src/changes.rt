@@ -4,8 +4,10 @@ ghost use Rattle.mon_history.specs.Configuration.{put};
 ghost use Rattle.mon_history.specs.Kept.{config_of, IsKept};
 ghost use Rattle.mon_events.specs.Sets as spec;
 ghost use Rattle.mon_events.specs.Events.{bit, events};
+ghost use Rattle.mon_events.specs.declared.event.Event.{Event as Known};
+ghost use Rattle.mon_history.specs.declared.calls.Policy.TheVariants.{Nothing};
 
-use mon_events::{Event, EventSet};
+use mon_events::{EVENTS, EventSet, event_at};
 use mon_history::{Config, Policy};
 use mon_values::text::Text;
 use sqlite_items::Items;
@@ -53,11 +55,25 @@ pub fn set_local(config: &mut Config, tool: u8, code: u16, set: EventSet)
     set_row(&mut config.local, tool, code, set);
 }
 
-pub fn set_policy(config: &mut Config, tool: u8, event: Event, policy: Policy)
+// The policies by the bits of the events, with another for each event of a set.
+fn policies_with(policies: [Policy; 17], set: EventSet, policy: Policy) -> [Policy; 17]
+    ensures { (e : Known) → slice_index_or result (bit e) Nothing ≡ (if spec.has set.0 e then policy else slice_index_or policies (bit e) Nothing) }
+{
+    let mut changed = policies;
+    for number in 0..EVENTS {
+        if set.has(event_at(number)) {
+            changed[number as usize] = policy;
+        }
+    }
+    changed
+}
+
+/// Gives a tool a policy for each event of a set.
+pub fn set_policy(config: &mut Config, tool: u8, set: EventSet, policy: Policy)
     requires low { tool < 6 }
-    requires kept { (codes : ℕ) × IsKept codes config.old }
-    ensures change { config_of config.new ≡ record (config_of config.old) { calls = put (config_of config.old).calls tool (λ e. if spec.has (2 ^ bit event) e then policy else (config_of config.old).calls tool e) } }
+    ensures change { config_of config.new ≡ record (config_of config.old) { calls = put (config_of config.old).calls tool (λ e. if spec.has set.0 e then policy else (config_of config.old).calls tool e) } }
     ensures kept { (codes : ℕ) → IsKept codes config.old → IsKept codes config.new }
 {
-    config.tools[tool as usize].policies[event.number() as usize] = policy;
+    let policies = policies_with(config.tools[tool as usize].policies, set, policy);
+    config.tools[tool as usize].policies = policies;
 }

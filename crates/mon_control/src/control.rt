@@ -14,7 +14,7 @@ use crate::settling::settle;
 use crate::starting::no_config;
 use mon_code::Program;
 use mon_history::{Config, ControlCall, Counts, Journal, JournalLine, Reply, Who};
-use mon_instrument::{set_words, walk};
+use mon_instrument::{change_words, walk, words_of};
 use mon_words::Halted;
 use std::alloc::Global;
 use std::marker::Model;
@@ -111,10 +111,11 @@ impl Control {
         } = ready;
         let answer = stop_reply(&self.config, &call);
         let kept = stop_reply(&self.config, &call);
+        let standing = words_of(&self.config);
         read_counts(&mut counts, s);
         change(&mut self.config, &call);
         walk(&self.config, program, s, reach_of(&call), restarts(&call));
-        set_words(&self.config, s);
+        change_words(&standing, &self.config, s);
         self.journal.add(JournalLine {
             call,
             who,

@@ -1,11 +1,9 @@
-ghost use Rattle.std.specs.Prelude.{◌≡◌, ℕ, ◌<◌, ◌^◌, IfOk, Some, None, option_map, nat_abs, is_some};
+ghost use Rattle.std.specs.Prelude.{◌≡◌, ℕ, IfOk, None, nat_abs, is_some, true};
 ghost use Rattle.mon_history.specs.Registry as registry;
-ghost use Rattle.mon_history.specs.Kept.{config_of, set_at, IsKept};
-ghost use Rattle.mon_history.specs.declared.calls.Reply.{Reply as Answer};
-ghost use Rattle.mon_events.specs.Sets as spec;
+ghost use Rattle.mon_history.specs.Kept.{config_of, IsKept};
 
-use crate::sets::tool_of;
-use mon_events::{EventSet, single};
+use crate::sets::{first_event, tool_of};
+use mon_events::EventSet;
 use mon_history::{Config, ControlCall, Policy, Reply};
 use mon_instrument::local_set_of;
 use std::alloc::AllocError;
@@ -45,14 +43,14 @@ fn due_local_set(config: &Config, id: i64, code: u16) -> Reply
     }
 }
 
-/// The policy that a tool has for the event.
+/// The policy that a tool has for the first event of a set.
 pub fn policy_of(config: &Config, id: i64, set: EventSet) -> Policy
-    requires accepted { is_some (registry.tool id) ≡ Rattle.std.specs.Prelude.true }
-    ensures { result ≡ registry.policy_for ((config_of config.now).calls (nat_abs id)) (spec.single set.0) }
+    requires accepted { is_some (registry.tool id) ≡ true }
+    ensures { result ≡ registry.policy_for ((config_of config.now).calls (nat_abs id)) (registry.first_event set.0) }
 {
     match tool_of(id) {
         None => Policy::Nothing,
-        Some(t) => match single(set) {
+        Some(t) => match first_event(set) {
             None => Policy::Nothing,
             Some(event) => config.tools[t as usize].policies[event.number() as usize],
         },

@@ -1,9 +1,9 @@
 //! Tool ids, and tests of sets.
 ghost use Rattle.std.specs.Prelude.{◌≡◌, ◌<◌, IfSome, nat_abs};
 ghost use Rattle.mon_events.specs.Sets as spec;
-ghost use Rattle.mon_history.specs.Registry.{tool};
+ghost use Rattle.mon_history.specs.Registry.{tool, first_event};
 
-use mon_events::{EventSet, normal_global, normal_local};
+use mon_events::{ALL_EVENTS, Event, EventSet, normal_global, normal_local};
 
 /// The tool of an id, if it is one.
 pub fn tool_of(id: i64) -> Option<u8>
@@ -34,4 +34,11 @@ pub fn is_local(set: EventSet) -> bool
     ensures { result ≡ spec.is_local_set set.0 }
 {
     normal_local(set).is_ok()
+}
+
+/// The first event of a set, in the order of the bits.
+pub fn first_event(set: EventSet) -> Option<Event>
+    ensures { result ≡ first_event set.0 }
+{
+    ALL_EVENTS.iter().copied().find(|e| set.has(*e))
 }

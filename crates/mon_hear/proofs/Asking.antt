@@ -3,12 +3,11 @@ use Rattle.std.proofs.Common.{◌≡◌, ℕ, ◌<◌, Bool, true, false, ◌&&�
 use Rattle.mon_events.specs.Events.{rank}
 use Rattle.mon_events.specs.declared.event.Event.{Event}
 use Rattle.mon_events.specs.declared.event.Slot.{Slot}
-use Rattle.mon_words.specs.Words.{cell_of, is_enabled, is_wanted, is_called, is_bit, Quiet}
+use Rattle.mon_words.specs.Words.{cell_of, is_enabled, is_wanted, is_called, Quiet}
 use Rattle.mon_words.specs.History.{after, cell_at}
 use Rattle.mon_words.specs.Told.{Told, Grows, Owns}
 use Rattle.mon_words.proofs.Masks.{quiet as quiet_of}
 use Rattle.mon_words.specs.declared.history.Board.{Board}
-use Rattle.mon_words.specs.declared.history.Mark.{Mark}
 use Rattle.mon_words.specs.declared.tally.Load.{Load}
 use Rattle.mon_recorders.specs.declared.happening.Happening.{Happening}
 use Rattle.mon_recorders.specs.declared.happening.Kind.{Kind}

@@ -1,16 +1,15 @@
 -- Bits of words, and of sets of tools.
 use Rattle.std.proofs.Common.{◌≡◌, ℕ, zero, suc, ◌+◌, ◌*◌, ◌/◌, ◌%◌, ◌^◌, ◌<◌, ◌≤◌, min, max, Bool, true, false, ◌&&◌, ◌||◌, eqb, cond, List, [], ◌∷◌, ◌++◌, length, take, get_or, refl, sym, ap, ◌∙◌, subst, arith, bit_and, bit_or}
-use mathlib.Core.Logic.{dite, ◌≢◌}
+use mathlib.Core.Logic.{dite}
 use native.Mathlib.Decide.{ℕ_discrete}
 use Rattle.std.specs.Int.{bit_at}
 use Rattle.std.specs.Int.{w8}
 use Rattle.std.proofs.lemmas.Nat.{pow-add, div-add-mod'}
 use Rattle.std.proofs.lemmas.Nat.Bits.{bit_at_cat_low, bit_at_and, bit_at_or, bit_at-lt, bit_at-zero, bit_at_set_same, bit_at_set_other}
 use Rattle.std.proofs.Math.Nat.{div-div-eq-div-mul}
-use Rattle.mon_events.specs.Events.{place, slot_number, rank}
-use Rattle.mon_events.specs.declared.event.Event.{Event}
+use Rattle.mon_events.specs.Events.{place, slot_number}
 use Rattle.mon_events.specs.declared.event.Slot.{Slot}
-use Rattle.mon_words.specs.Words.{cell_of, is_bit, is_enabled, is_wanted}
+use Rattle.mon_words.specs.Words.{cell_of, is_bit, is_enabled}
 use Rattle.mon_recorders.specs.declared.happening.Happening.{Happening}
 use Rattle.mon_recorders.specs.Boards.{is_enabled_by}
 use Rattle.mon_hear.specs.Words.{any_enabled}

@@ -1,6 +1,6 @@
 -- The registry of tools: what each call replies and what it changes.
-use Rattle.std.specs.Prelude.{ℕ, nat_lt, Bool, true, false, not, ◌&&◌, ◌||◌, if◌then◌else◌, List, Option, Some, None, is_some, is_none, option_map, ℤ, pos, negsuc, nat_abs}
-use Rattle.mon_events.specs.Events.{is_local}
+use Rattle.std.specs.Prelude.{ℕ, nat_lt, Bool, true, false, not, ◌&&◌, ◌||◌, if◌then◌else◌, List, Option, Some, None, is_some, is_none, option_map, find, ℤ, pos, negsuc, nat_abs}
+use Rattle.mon_events.specs.Events.{is_local, all_events}
 use Rattle.mon_events.specs.Sets.{has, normal_set, is_global_set, is_local_set, single, set_of}
 use Rattle.mon_events.specs.declared.event.Event.{Event}
 use Rattle.mon_history.specs.declared.calls.ControlCall.{ControlCall}
@@ -52,6 +52,10 @@ name_reply None = Reply.Nothing
 abbrev pub set_reply : (Event → Bool) → Reply
 set_reply f = Reply.Set (record { 0 = set_of f })
 
+-- the first event of a set, in the order of the bits
+abbrev pub first_event : ℕ → Option Event
+first_event set = find (has set) all_events
+
 -- `Nothing` where no event is given, which an accepted call does not have
 abbrev pub policy_for : (Event → Policy) → Option Event → Policy
 policy_for f (Some e) = f e
@@ -62,7 +66,7 @@ abbrev pub due : Configuration → ControlCall → Reply
 due C (ControlCall.GetTool id) = name_reply (C.tools (nat_abs id))
 due C (ControlCall.GetEvents id) = set_reply (C.wants (nat_abs id))
 due C (ControlCall.GetLocalEvents id code) = set_reply (C.local (nat_abs id) code)
-due C (ControlCall.RegisterCallback id set policy) = Reply.Was (policy_for (C.calls (nat_abs id)) (single set.0))
+due C (ControlCall.RegisterCallback id set policy) = Reply.Was (policy_for (C.calls (nat_abs id)) (first_event set.0))
 due C _ = Reply.Nothing
 
 abbrev pub or_due : Option Reply → Reply → Reply

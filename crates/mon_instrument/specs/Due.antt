@@ -79,6 +79,10 @@ pub record Worded (C : Configuration) (n : ℕ) (old new : Halt) : Type 0 where
   pub six : length words ≡ length old.board.callbacks
   pub callbacks_are : (t : ℕ) → t < n → slice_index words t ≡ callbacks C t
 
+-- the callback words of the tools 0 to 5
+abbrev pub callback_words : Configuration → List ℕ
+callback_words C = callbacks C 0 ∷ callbacks C 1 ∷ callbacks C 2 ∷ callbacks C 3 ∷ callbacks C 4 ∷ callbacks C 5 ∷ []
+
 -- the board has the locations with their base opcodes, and a callback word for each tool
 pub record IsLaidOut (sites : List Site) (b : Board) : Type 0 where
   pub wide : length b.cells ≡ length sites

@@ -14,4 +14,4 @@ pub use bits::local_set_of;
 pub use laws::first_words_stand;
 pub use walking::{Reach, walk};
 pub use wanting::{want, want_bits};
-pub use words::{callback_word, globals_word, set_words};
+pub use words::{Words, callback_word, change_words, globals_word, set_words, words_of};

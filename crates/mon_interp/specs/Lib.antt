@@ -1,5 +1,6 @@
-pub mod Heard
 pub mod InPlace
 pub mod Machines
 pub mod Moving
+pub mod Places
+pub mod Shows
 pub mod Threads

@@ -5,9 +5,9 @@
 mod answer;
 mod call;
 mod done;
+mod events;
 mod global;
 mod handling;
-mod hear;
 mod iterate;
 mod jump;
 mod load;
@@ -18,6 +18,7 @@ mod perform;
 mod quick;
 mod sequence;
 mod settle;
+mod shows;
 mod step;
 mod thread;
 

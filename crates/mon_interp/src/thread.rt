@@ -6,7 +6,7 @@ use crate::machine::Machine;
 use mon_code::{Code, Program};
 use mon_frames::Frames;
 use mon_machine::Mode;
-use mon_recorders::ThreadReport;
+use mon_recorders::{Records, ThreadReport};
 use mon_values::value::{Value, copies_of};
 use mon_words::Handle;
 use sqlite_items::Items;
@@ -57,10 +57,12 @@ pub enum Stop {
     Spent,
     /// The thread has ended.
     Ended,
+    /// The world is asked to stop, and the next instruction was not done.
+    Asked,
 }
 
-/// A thread of the interpreter. Contracts see where the plain machine stands, what it printed, the records, the
-/// number of steps, and whether memory was short.
+/// A thread of the interpreter. Contracts see where the plain machine stands, what it printed, the records and the
+/// disables, the number of steps, and whether memory was short.
 #[derive(Drop)]
 pub struct Thread {
     machine: Machine,
@@ -74,25 +76,27 @@ impl Model for Thread {
     ghost use Rattle.mon_machine.specs.declared.mode.Mode.{Mode as ModeOf};
     ghost use Rattle.mon_machine.specs.contracts.mode.Mode as mode;
     ghost use Rattle.mon_recorders.specs.declared.record.Record.{Record as RecordOf};
+    ghost use Rattle.mon_recorders.specs.declared.record.Disabled.{Disabled as DisabledOf};
     ghost use Rattle.mon_recorders.specs.contracts.record.Record as a_record;
+    ghost use Rattle.mon_recorders.specs.contracts.record.Disabled as a_disable;
     ghost use Rattle.mon_interp.specs.Machines.{progress_of};
     ghost use Rattle.mon_interp.specs.Threads.{ThreadView};
 
     ghost Value = { ThreadView };
 
-    ghost coded = { code_by ((FramesView × ModeOf) × (List (List ℕ) × (List RecordOf × (ℕ × Bool)))) (coded× (coded× view_code mode.the_row.coded) (coded× (coded_list (coded_list coded_ℕ)) (coded× (coded_list a_record.the_row.coded) (coded× coded_ℕ coded_bool)))) (λ t. ((t.progress.state.frames, t.progress.state.mode), (t.progress.printed, (t.progress.records, (t.progress.steps, t.failed))))) (λ p. record { progress = record { state = record { frames = p.0.0; mode = p.0.1 }; printed = p.1.0; records = p.1.1.0; steps = p.1.1.1.0 }; failed = p.1.1.1.1 }) (λ _. refl) };
+    ghost coded = { code_by ((FramesView × ModeOf) × (List (List ℕ) × (List RecordOf × (List DisabledOf × (ℕ × Bool))))) (coded× (coded× view_code mode.the_row.coded) (coded× (coded_list (coded_list coded_ℕ)) (coded× (coded_list a_record.the_row.coded) (coded× (coded_list a_disable.the_row.coded) (coded× coded_ℕ coded_bool))))) (λ t. ((t.progress.state.frames, t.progress.state.mode), (t.progress.printed, (t.progress.records, (t.progress.disables, (t.progress.steps, t.failed)))))) (λ p. record { progress = record { state = record { frames = p.0.0; mode = p.0.1 }; printed = p.1.0; records = p.1.1.0; disables = p.1.1.1.0; steps = p.1.1.1.1.0 }; failed = p.1.1.1.1.1 }) (λ _. refl) };
 
     ghost view = { λ t. record { progress = progress_of t.machine; failed = t.failed } };
 }
 
 impl Thread {
-    ghost use Rattle.std.specs.Prelude.{◌≡◌, ◌+◌, ◌≤◌, length, map, true, false, not, IsTrue, OnOk, OnErr, IfOk, Ok, Err, []};
+    ghost use Rattle.std.specs.Prelude.{◌≡◌, ◌+◌, ◌≤◌, map, true, false, not, IsTrue, OnOk, OnErr, IfOk, Err};
     ghost use Rattle.mon_words.specs.History.{after, base_in};
-    ghost use Rattle.mon_words.specs.Told.{Grows};
+    ghost use Rattle.mon_words.specs.Told.{Owns};
     ghost use Rattle.mon_machine.specs.State.{goes};
-    ghost use Rattle.mon_machine.specs.Run.{Ran};
-    ghost use Rattle.mon_machine.specs.Bare.{IsBare, plain_after};
-    ghost use Rattle.mon_interp.specs.Threads.{beginning, entry_due, reported, AnswersEntry};
+    ghost use Rattle.mon_machine.specs.Bare.{IsBare};
+    ghost use Rattle.mon_machine.specs.Advances.{Advanced, Stays, is_asked, plain_after};
+    ghost use Rattle.mon_interp.specs.Threads.{beginning, entry_due, reported, stop_due, AnswersEntry};
 
     /// A thread that calls a code, which has this number in its program, with these arguments.
     pub fn begin(
@@ -110,7 +114,8 @@ impl Thread {
             frames,
             mode: Mode::Run,
             printed: Items::new(alloc),
-            records: Items::new(alloc),
+            records: Records::new(alloc),
+            disables: Items::new(alloc),
             steps: 0,
         };
         Ok(Thread {
@@ -140,7 +145,9 @@ impl Thread {
         Ok(Thread::begin(alloc, code, number, args)?)
     }
 
-    /// Does at most `steps` steps over the handle's words. After want of memory every later call answers it too.
+    /// Does at most `steps` steps over the handle's words. Of each step's events those are recorded that the words let
+    /// through, and what its callbacks disable is disabled. Before an instruction at which a thread may be stopped it polls,
+    /// and stops where the world is asked to stop. After want of memory every later call answers it too.
     pub fn advance<H: Handle>(
         &mut self,
         program: &Program,
@@ -148,33 +155,32 @@ impl Thread {
         steps: u64,
     ) -> Result<Stop, AdvanceFault>
         requires attached { IsTrue (H.told handle.old).attached }
+        requires owns { Owns (H.told handle.old) }
         requires bases { map base_in (H.told handle.old).first.cells ≡ program.now.bases }
         requires counted { self.old.progress.steps + steps ≤ 200000 }
 
-        // the plain machine's steps, each read at its position in the history
-        ensures run { OnOk result (Ran program.now (H.told handle.old).first (H.told handle.old).seen (H.told handle.new).seen self.old.progress self.new.progress) }
+        // the plain machine's steps, each heard at its position in the history, and the polls before them
+        ensures run { OnOk result (Advanced program.now steps (H.told handle.old) (H.told handle.new) self.old.progress self.new.progress) }
 
-        // where nothing is wanted nothing is recorded, and the thread goes as far as the plain run does
-        ensures bare { IsBare (after (H.told handle.old).first (H.told handle.old).seen) → OnOk result (self.new.progress ≡ plain_after program.now steps self.old.progress) }
+        // where nothing is wanted nothing is recorded, and a thread that is not asked to stop goes as far as the plain run does
+        ensures bare { IsBare (after (H.told handle.old).first (H.told handle.old).seen) → is_asked (H.told handle.old) (H.told handle.new) ≡ false → OnOk result (self.new.progress ≡ plain_after program.now steps self.old.progress) }
 
-        ensures spent { result ≡ Ok Stop.Spent → (goes self.new.progress.state.mode ≡ true) × (self.new.progress.steps ≡ self.old.progress.steps + steps) }
-        ensures ended { result ≡ Ok Stop.Ended → goes self.new.progress.state.mode ≡ false }
+        ensures stop { IfOk result (λ stop. stop ≡ stop_due (is_asked (H.told handle.old) (H.told handle.new)) self.new.progress.state.mode) }
 
         // want of memory
         ensures before { IsTrue self.old.failed → result ≡ Err AdvanceFault.Memory }
         ensures memory { OnErr result (self.new.failed ≡ true) }
         ensures counted { (self.old.progress.steps ≤ self.new.progress.steps) × (self.new.progress.steps ≤ self.old.progress.steps + steps) }
 
-        // the handle: more may have been seen, in which no disable is this thread's
-        ensures grows { Grows (H.told handle.old) (H.told handle.new) [] }
+        // the handle, after every answer: it is still attached, and no board was added to what is seen
+        ensures stays { Stays (H.told handle.old) (H.told handle.new) }
         ensures rest { H.rest handle.new ≡ H.rest handle.old }
     {
         if self.failed {
             return Err(AdvanceFault::Memory);
         }
         match self.machine.advance(program, handle, steps) {
-            Ok(true) => Ok(Stop::Spent),
-            Ok(false) => Ok(Stop::Ended),
+            Ok(stop) => Ok(stop),
             Err(_) => {
                 self.failed = true;
                 Err(AdvanceFault::Memory)

@@ -1,9 +1,14 @@
-use Rattle.std.proofs.Common.{◌∙◌, ap, sym, subst}
+use Rattle.std.proofs.Common.{◌∙◌, List, ap, sym, subst}
 use Rattle.mon_code.specs.Checked.{IsChecked}
+use Rattle.mon_trees.specs.declared.tree.ModuleItem.{ModuleItem}
+use Rattle.mon_compile.specs.Faults.{FewLocals}
 use Rattle.mon_compile.specs.Modules as spec
 use Rattle.mon_compile.proofs.Listed.{no_fault, assembled}
-use Rattle.mon_compile.proofs.Programs.{compiled_checked}
+use Rattle.mon_compile.proofs.Programs.{compiled_checked, few_locals}
 use Rattle.mon_compile.proofs.program.compile.Goals as goal
+
+pub list_codes-requires : goal.list_codes-requires
+list_codes-requires c = subst (λ (l : List ModuleItem). FewLocals (spec.functions_of l)) (sym c.as_slice-items.ensures) (few_locals c.args.module.now (sym c.in_ok-fault.ensures ∙ c.in_default.is))
 
 pub new-program-requires : goal.new-program-requires
 new-program-requires c =

@@ -1,6 +1,5 @@
-use Rattle.std.proofs.Common.{◌++◌, ap, ◌∙◌, subst, sym, append_assoc}
+use Rattle.std.proofs.Common.{◌++◌, ap, ◌∙◌, append_assoc}
 use Rattle.mon_words.specs.History.{after}
-use Rattle.mon_words.specs.Told.{Told}
 use Rattle.mon_hear.specs.Words as spec
 use Rattle.mon_hear.proofs.Agreeing.{loads_same}
 use Rattle.mon_hear.proofs.Steps.{on_ok-then, retiring_from}

@@ -1,4 +1,4 @@
-use Rattle.std.proofs.Common.{◌≡◌, ◌+◌, ◌*◌, map, drop}
+use Rattle.std.proofs.Common.{◌≡◌, ◌+◌, ◌*◌, ◌≤◌, length, map, drop}
 use Rattle.mon_compile.specs.Emission.{emitted}
 use Rattle.mon_compile.specs.Expressions as scheme
 use Rattle.mon_compile.specs.Nodes.{nodes, all_nodes}
@@ -6,7 +6,10 @@ use Rattle.mon_compile.proofs.emitter.Emitter.+expression.Given as goal
 
 abbrev pub invariant-expressions-loop-expression : goal.invariant-expressions-loop-expression
 invariant-expressions-loop-expression l =
-    emitted l.self (scheme.in_turn (map (scheme.expression_code l.self.locals) (drop l.expression-index l.expressions)) l.up) ≡ emitted l.fn.self (scheme.in_turn (map (scheme.expression_code l.fn.self.locals) l.expressions) l.fn.spot)
+    record {
+      made : emitted l.self (scheme.in_turn (map (scheme.expression_code l.self.locals) (drop l.expression-index l.expressions)) l.up) ≡ emitted l.fn.self (scheme.in_turn (map (scheme.expression_code l.fn.self.locals) l.expressions) l.fn.spot);
+      deep : l.up.stack ≤ length l.self.code;
+    }
 
 abbrev pub decreases-expression : goal.decreases-expression
 decreases-expression l = 4 * nodes l.expression.now

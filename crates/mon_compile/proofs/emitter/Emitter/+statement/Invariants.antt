@@ -1,4 +1,4 @@
-use Rattle.std.proofs.Common.{◌≡◌, ◌+◌, ◌*◌, map, drop}
+use Rattle.std.proofs.Common.{◌≡◌, ◌+◌, ◌*◌, ◌<◌, ◌≤◌, length, map, drop}
 use Rattle.mon_compile.specs.Emission.{emitted}
 use Rattle.mon_compile.specs.Nodes.{statement_nodes, handler_nodes, block_nodes, clauses_nodes}
 use Rattle.mon_compile.specs.Open.{open_context}
@@ -7,7 +7,10 @@ use Rattle.mon_compile.proofs.emitter.Emitter.+statement.Given as goal
 
 abbrev pub invariant-block-loop-statement : goal.invariant-block-loop-statement
 invariant-block-loop-statement l =
-    emitted l.self (statements.block_code l.self.locals (drop l.statement-index l.body) (open_context l.context)) ≡ emitted l.fn.self (statements.block_code l.fn.self.locals l.body (open_context l.context))
+    record {
+      made : emitted l.self (statements.block_code l.self.locals (drop l.statement-index l.body) (open_context l.context)) ≡ emitted l.fn.self (statements.block_code l.fn.self.locals l.body (open_context l.context));
+      deep : length (open_context l.context) ≤ length l.self.code;
+    }
 
 abbrev pub decreases-statement : goal.decreases-statement
 decreases-statement l = 6 * statement_nodes l.statement.now
@@ -53,8 +56,11 @@ decreases-each_clause l = 6 * clauses_nodes l.clauses.now + 1
 
 abbrev pub invariant-each_clause-loop-clause : goal.invariant-each_clause-loop-clause
 invariant-each_clause-loop-clause l =
-    emitted l.self (statements.clauses_code (map (statements.handler_code l.self.locals) (drop l.clause-index l.clauses)) l.end (open_context l.context))
-    ≡ emitted l.fn.self (statements.clauses_code (map (statements.handler_code l.fn.self.locals) l.clauses) l.end (open_context l.context))
+    record {
+      made : emitted l.self (statements.clauses_code (map (statements.handler_code l.self.locals) (drop l.clause-index l.clauses)) l.end (open_context l.context))
+          ≡ emitted l.fn.self (statements.clauses_code (map (statements.handler_code l.fn.self.locals) l.clauses) l.end (open_context l.context));
+      deep : length (open_context l.context) < length l.self.code;
+    }
 
 abbrev pub decreases-clause : goal.decreases-clause
 decreases-clause l = 6 * handler_nodes l.clause.now

@@ -1,4 +1,4 @@
-use Rattle.std.proofs.Common.{ℕ, List, ◌++◌, map, sym, ap, ◌∙◌, subst, eqb-true}
+use Rattle.std.proofs.Common.{List, ◌++◌, map, sym, ap, ◌∙◌, subst}
 use Rattle.mon_words.specs.Words.{is_bit}
 use Rattle.mon_recorders.specs.Happenings.{for_tools, record_of}
 use Rattle.mon_recorders.specs.declared.records.Entry.{Entry}

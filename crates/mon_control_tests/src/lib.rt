@@ -1,0 +1,5 @@
+//! The registry over a plain board.
+#![tactic(auto)]
+
+#[cfg(test)]
+mod tests;

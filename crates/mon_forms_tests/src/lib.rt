@@ -1,0 +1,5 @@
+//! Tests of `mon_forms`.
+#![tactic(auto)]
+
+#[cfg(test)]
+mod tests;

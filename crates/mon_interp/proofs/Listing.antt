@@ -1,0 +1,124 @@
+-- The events of a step, by the place of its instruction.
+use Rattle.std.proofs.Common.{◌≡◌, ℕ, ◌*◌, Bool, true, false, inl, inr, List, [], ◌∷◌, ◌++◌, Option, Some, None, refl, ap, ◌∙◌, subst, append_assoc}
+use Rattle.std.specs.Prelude.{◌==◌, if◌then◌else◌, option_map, slice_get}
+use Rattle.mon_values.specs.declared.value.Exc.{Exc}
+use Rattle.mon_values.specs.declared.value.Value.{Value, Exc as Raised-value}
+use Rattle.mon_values.specs.declared.value.Value.TheOpen.{Value-F}
+use Rattle.mon_values.specs.declared.value.Value.TheViews.{out-Value}
+use Rattle.mon_events.specs.declared.event.Event.{Event}
+use Rattle.mon_events.specs.declared.event.Slot.{Slot}
+use Rattle.mon_events.specs.declared.op.Op.{Op}
+use Rattle.mon_events.specs.Ops.{main_event}
+use Rattle.mon_code.specs.Programs.{Parts}
+use Rattle.mon_frames.specs.declared.frame.Frame.{Frame}
+use Rattle.mon_frames.specs.declared.call.Call.{Call}
+use Rattle.mon_frames.specs.Views.{FramesView}
+use Rattle.mon_code.specs.declared.program.Code.{Code}
+use Rattle.mon_machine.specs.Moves.{effect}
+use Rattle.mon_machine.proofs.Proper.{effect_none}
+use Rattle.mon_recorders.specs.declared.happening.Happening.{Happening}
+use Rattle.mon_recorders.specs.declared.happening.Kind.{Kind}
+use Rattle.mon_recorders.specs.declared.happening.Kind.TheVariants.{Local, Global, Ancillary}
+use Rattle.mon_machine.specs.declared.mode.Ending.{Ending}
+use Rattle.mon_machine.specs.State.{Move}
+use Rattle.mon_machine.specs.Events.{Shown, SlotEvent, happens, showing, offset, of_call, of_value, index_in, shown, stopped, stopped_at, in_main, local_event, line_events, slot_events, ancillary_events, of_exception, raise_events, instruction_events}
+use Rattle.mon_interp.specs.declared.events.Place.{Place}
+use Rattle.mon_interp.specs.declared.shows.Shows.{Shows}
+use Rattle.mon_interp.specs.declared.step.Before.{Before}
+use Rattle.mon_interp.specs.Places.{standing, IsAt, IsBefore, ShowsFor, Answered}
+use Rattle.mon_interp.specs.Shows.{shown_in, going, values, dest}
+
+module _ (pl : Place) (f : Frame) (at : IsAt pl f) where
+  happens_at : (event : Event) (kind : Kind) (n : ℕ) → happens event kind (standing pl) n ≡ happens event kind f n
+  happens_at event kind n = λ i. record { event = event; kind = kind; code = at.code i; at = n; offset = 2 * at.index i; dest = 0; first = []; second = [] }
+
+  own_at : (event : Event) (kind : Kind) → happens event kind (standing pl) (2 * pl.index) ≡ happens event kind f (offset f)
+  own_at event kind = happens_at event kind (2 * pl.index) ∙ ap (λ n. happens event kind f (2 * n)) at.index
+
+  line_choice : (location line : ℕ) (same : Bool) → (if same then [] else happens Event.Line (Local location Slot.Line) (standing pl) line ∷ []) ≡ (if same then [] else happens Event.Line (Local location Slot.Line) f line ∷ [])
+  line_choice location line true = refl
+  line_choice location line false = ap (λ (h : Happening). h ∷ []) (happens_at Event.Line (Local location Slot.Line) line)
+
+  pub line_at : (location : ℕ) (line last : Option ℕ) → line_events (standing pl) location line last ≡ line_events f location line last
+  line_at location None last = refl
+  line_at location (Some line) None = line_choice location line false
+  line_at location (Some line) (Some last) = line_choice location line (line == last)
+
+  pub slot_at : (e : Option SlotEvent) (location : ℕ) → slot_events e location (standing pl) ≡ slot_events e location f
+  slot_at None location = refl
+  slot_at (Some e) location = ap (λ (h : Happening). showing e.shows h ∷ []) (own_at e.event (Local location e.slot))
+
+  pub ancillary_at : (e : Option Event) (s : Shown) (location : ℕ) → ancillary_events e s location (standing pl) ≡ ancillary_events e s location f
+  ancillary_at None s location = refl
+  ancillary_at (Some event) s location = ap (λ (h : Happening). showing s h ∷ []) (own_at event (Ancillary location))
+
+  pub exception_at : (p : Parts) (event : Event) (e : Exc) → of_exception p event e (standing pl) ≡ of_exception p event e f
+  exception_at p event e = ap (λ (h : Happening). showing (of_value p (Some (Raised-value e))) h) (own_at event Global)
+
+  pub raise_at : (p : Parts) (ending : Ending) → raise_events p (standing pl) ending ≡ raise_events p f ending
+  raise_at p Ending.Continues = refl
+  raise_at p (Ending.Raises e) = ap (λ (h : Happening). h ∷ []) (exception_at p Event.Raise e)
+  raise_at p (Ending.Reraises e) = ap (λ (h : Happening). h ∷ []) (exception_at p Event.Reraise e)
+  raise_at p (Ending.Returns x) = refl
+  raise_at p Ending.Misses = refl
+
+-- what an event shows is what is known before, and where it goes
+stop_in : (p : Parts) (v : Value-F Value Exc) → option_map (going 0) (stopped_at p v) ≡ stopped_at p v
+stop_in p (Value-F.Done None) = refl
+stop_in p (Value-F.Done (Some e)) = refl
+stop_in p _ = refl
+
+stop : (p : Parts) (v : Option Value) → option_map (going 0) (stopped p v) ≡ stopped p v
+stop p None = refl
+stop p (Some v) = stop_in p (out-Value v)
+
+shown_by : (p : Parts) (op : Op) (n : ℕ) (f : Frame) (calls : List Call) → option_map (going (dest op n (index_in calls))) (values p op n f) ≡ shown p op n f calls
+shown_by p Op.EndFor n f calls = stop p (slice_get f.stack 0)
+shown_by p _ n f calls = refl
+
+both_maps : (to : ℕ) (shows : Option Shows) → option_map (λ s. going to (shown_in s)) shows ≡ option_map (going to) (option_map shown_in shows)
+both_maps to None = refl
+both_maps to (Some s) = refl
+
+call_shows : (p : Parts) (op : Op) (n : ℕ) (f : Frame) (shows : Option Shows) (ancillary : Option Event) → option_map shown_in shows ≡ values p op n f → Answered op ancillary → ShowsFor ancillary shows (of_call p n f.stack)
+call_shows p op n f shows None e a = tt
+call_shows p op n f shows (Some event) e (inl is) = e ∙ ap (λ (o : Op). values p o n f) is
+call_shows p op n f shows (Some event) e (inr is) = absurd cc
+
+-- the events of an instruction, one after the other
+pub listed : (p : Parts) (op : Op) (n : ℕ) (line : Option ℕ) (f : Frame) (b : Before) (m : Move) (to : ℕ) (es1 es2 es3 es4 es5 : List Happening) → IsBefore p op n b.place.location f b → Answered op m.ancillary → to ≡ dest op n (index_in m.frames.calls)
+    → es1 ≡ line_events (standing b.place) b.place.location line b.last
+    → es2 ≡ es1 ++ happens Event.Instruction (Local b.place.location Slot.Instruction) (standing b.place) (2 * b.place.index) ∷ []
+    → es3 ≡ es2 ++ slot_events (in_main (main_event op n) (option_map (λ s. going to (shown_in s)) b.shows)) b.place.location (standing b.place)
+    → ((s : Shown) → ShowsFor m.ancillary b.shows s → es4 ≡ es3 ++ ancillary_events m.ancillary s b.place.location (standing b.place))
+    → es5 ≡ es4 ++ raise_events p (standing b.place) m.ending
+    → es5 ≡ instruction_events p op n b.place.location line f m
+listed p op n line f b m to es1 es2 es3 es4 es5 is answered goes e1 e2 e3 e4 e5 =
+    let location : ℕ = b.place.location in
+    let xs : List Happening = line_events f location line f.line in
+    let i : Happening = happens Event.Instruction (Local location Slot.Instruction) f (offset f) in
+    let main : List Happening = slot_events (local_event p op n f m) location f in
+    let anc : List Happening = ancillary_events m.ancillary (of_call p n f.stack) location f in
+    let raised : List Happening = raise_events p f m.ending in
+    let shows : option_map (λ s. going to (shown_in s)) b.shows ≡ shown p op n f m.frames.calls =
+    both_maps to b.shows ∙ ap (λ (o : Option Shown). option_map (going to) o) is.shows ∙ ap (λ k. option_map (going k) (values p op n f)) goes ∙ shown_by p op n f m.frames.calls in
+    let x1 : es1 ≡ xs = e1 ∙ line_at b.place f is.at location line b.last ∙ ap (λ (l : Option ℕ). line_events f location line l) is.last in
+    let x2 : es2 ≡ xs ++ i ∷ [] = e2 ∙ (λ j. x1 j ++ own_at b.place f is.at Event.Instruction (Local location Slot.Instruction) j ∷ []) in
+    let y3 : slot_events (in_main (main_event op n) (option_map (λ s. going to (shown_in s)) b.shows)) location (standing b.place) ≡ main =
+    slot_at b.place f is.at (in_main (main_event op n) (option_map (λ s. going to (shown_in s)) b.shows)) location ∙ ap (λ (o : Option Shown). slot_events (in_main (main_event op n) o) location f) shows in
+    let x3 : es3 ≡ (xs ++ i ∷ []) ++ main = e3 ∙ (λ j. x2 j ++ y3 j) in
+    let y4 : es4 ≡ es3 ++ ancillary_events m.ancillary (of_call p n f.stack) location (standing b.place) = e4 (of_call p n f.stack) (call_shows p op n f b.shows m.ancillary is.shows answered) in
+    let z4 : ancillary_events m.ancillary (of_call p n f.stack) location (standing b.place) ≡ anc = ancillary_at b.place f is.at m.ancillary (of_call p n f.stack) location in
+    let x4 : es4 ≡ ((xs ++ i ∷ []) ++ main) ++ anc = y4 ∙ (λ j. x3 j ++ z4 j) in
+    let z5 : raise_events p (standing b.place) m.ending ≡ raised = raise_at b.place f is.at p m.ending in
+    let x5 : es5 ≡ (((xs ++ i ∷ []) ++ main) ++ anc) ++ raised = e5 ∙ (λ j. x4 j ++ z5 j) in
+    x5 ∙ append_assoc ((xs ++ i ∷ []) ++ main) anc raised
+    ∙ append_assoc (xs ++ i ∷ []) main (anc ++ raised)
+    ∙ append_assoc xs (i ∷ []) (main ++ (anc ++ raised))
+
+-- what was seen of a frame
+pub looked : (p : Parts) (op : Op) (n number : ℕ) (f g : Frame) (b : Before) → IsBefore p op n number g b → g ≡ f → IsBefore p op n b.place.location f b
+looked p op n number f g b h same = subst (λ (x : Frame). IsBefore p op n b.place.location x b) same (record { at = h.at; location_is = refl; last = h.last; shows = h.shows })
+
+pub answered_by : (p : Parts) (c : Code) (op : Op) (n : ℕ) (f : Frame) (v : FramesView) (m : Move) → effect p c op n f v ≡ m → Answered op m.ancillary
+answered_by p c op n f v m e = subst (λ (x : Move). Answered op x.ancillary) e (effect_none p c op n f v)

@@ -1,0 +1,4 @@
+def f(n):
+    if n:
+	    return n
+    return 0
