@@ -60,8 +60,12 @@ record_front step tool = codes "rec " ++ decimal step ++ codes " " ++ decimal to
 abbrev pub record_head : Record → List ℕ
 record_head r = record_front r.step r.tool ++ events.name_of r.event ++ codes " "
 
+-- the line of a record, whose code has this name
+abbrev pub named_line : List ℕ → Record → List ℕ
+named_line name r = record_head r ++ name ++ arguments_text r ++ codes "\n"
+
 abbrev pub record_line : Parts → Record → List ℕ
-record_line p r = record_head r ++ code_text p r.code ++ arguments_text r ++ codes "\n"
+record_line p r = named_line (code_text p r.code) r
 
 abbrev pub records_text : Parts → List Record → List ℕ
 records_text p [] = []

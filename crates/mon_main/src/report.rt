@@ -53,12 +53,12 @@ fn code_names(alloc: Global, program: &Program) -> Result<Vec<String>, AllocErro
 }
 
 /// The name of a code among those of all; nothing where there is none.
-fn write_name(out: &mut String, names: &[String], code: u16) -> Result<(), AllocError>
-    ensures { OnOk result ((p : Parts) → spec.AreNames p names.now → string_bytes out.new ≡ string_bytes out.old ++ spec.code_text p code) }
+fn name_of(names: &[String], code: u16) -> &str
+    ensures { (p : Parts) → spec.AreNames p names.now → result.now ≡ spec.code_text p code }
 {
     match names.get(code as usize) {
-        None => Ok(()),
-        Some(name) => out.push_str(name.as_str()),
+        None => "",
+        Some(name) => name.as_str(),
     }
 }
 
@@ -167,15 +167,12 @@ fn write_arguments(out: &mut String, delivery: &Delivery<'_>) -> Result<(), Allo
     write_number(out, u64::from(delivery.at()))
 }
 
-fn write_record(
-    out: &mut String,
-    names: &[String],
-    delivery: &Delivery<'_>,
-) -> Result<(), AllocError>
-    ensures { OnOk result ((p : Parts) → spec.AreNames p names.now → string_bytes out.new ≡ string_bytes out.old ++ spec.record_line p delivery.now) }
+/// The line of a record, whose code has this name.
+fn write_record(out: &mut String, name: &str, delivery: &Delivery<'_>) -> Result<(), AllocError>
+    ensures { OnOk result (string_bytes out.new ≡ string_bytes out.old ++ spec.named_line name.now delivery.now) }
 {
     write_record_head(out, delivery)?;
-    write_name(out, names, delivery.code())?;
+    out.push_str(name)?;
     write_arguments(out, delivery)?;
     out.push_str("\n")
 }
@@ -184,7 +181,9 @@ fn write_lines(out: &mut String, names: &[String], records: &Records) -> Result<
     ensures { OnOk result ((p : Parts) → spec.AreNames p names.now → string_bytes out.new ≡ string_bytes out.old ++ spec.records_text p records.now) }
 {
     for index in 0..records.len() {
-        write_record(out, names, &records.delivery(index))?;
+        let delivery = records.delivery(index);
+        let name = name_of(names, delivery.code());
+        write_record(out, name, &delivery)?;
     }
     Ok(())
 }
