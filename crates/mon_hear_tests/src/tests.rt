@@ -3,12 +3,13 @@ ghost use Rattle.mon_words.specs.Told.{Owns};
 ghost use Rattle.mon_words.specs.Standing.{IsFirst};
 ghost use Rattle.mon_board.specs.PlainViews.{IsRunning};
 ghost use Rattle.mon_recorders.specs.Boards.{AreAt};
+ghost use Rattle.mon_hear.specs.Hearing.{AreGlobal};
 
 use mon_board::{BoardFault, PlainBoard};
 use mon_events::{Event, Slot};
-use mon_hear::{asks, hear_step};
+use mon_hear::{asks, hear_step, hear_unwinding};
 use mon_recorders::{Cut, Disabled, Happening, Kind, Records};
-use mon_values::value::Value;
+use mon_values::value::{Exc, Value};
 use mon_words::Handle;
 use sqlite_items::Items;
 use std::alloc::{AllocError, Global};
@@ -70,6 +71,21 @@ fn lines(alloc: Global) -> Result<Items<Happening>, AllocError>
     Ok(events)
 }
 
+// An exception that leaves a frame.
+fn unwinds(alloc: Global) -> Result<Items<Happening>, AllocError>
+    ensures { IfOk result (λ es. AreGlobal es) }
+{
+    let raised = Exc {
+        class: 5,
+        arg: None,
+    };
+    let names = Items::new(alloc);
+    let cut = Cut::of_exc(alloc, &raised, names.as_slice())?;
+    let mut events = Items::new(alloc);
+    events.push(event(Event::PyUnwind, Kind::Global, 8, cut))?;
+    Ok(events)
+}
+
 // A board of one location, whose words these are.
 fn board(alloc: Global, words: &[u64]) -> Result<PlainBoard, BoardFault>
     requires first { IsFirst words.now }
@@ -119,6 +135,25 @@ fn hear_over(
         unreachable!()
     };
     hear_at_first(alloc, &mut handle, events)
+}
+
+// The records of step 5, which unwinds, over a board.
+fn unwound_over(
+    alloc: Global,
+    board: &mut PlainBoard,
+    events: &[Happening],
+) -> Result<Records, AllocError>
+    requires threads { board.old.threads ≡ 1 }
+    requires running { IsRunning board.old.chair.me.0 }
+    requires global { AreGlobal events.now }
+{
+    let mut handle = board.handle(0);
+    let Ok(()) = handle.try_enter() else {
+        unreachable!()
+    };
+    let mut records = Records::new(alloc);
+    hear_unwinding(&mut handle, 5, events, &mut records)?;
+    Ok(records)
 }
 
 // Whether the records are of these tools and events, in this order.
@@ -226,4 +261,36 @@ fn a_word_that_enables_nothing_is_retired(rt: HostRuntime) {
     assert!(rt; heard.records.is_empty() && heard.disables.is_empty());
     assert_eq!(rt; heard.word, 0xffff_fe00_0001_1515);
     assert!(rt; !asks(heard.word, 0) && asks(heard.word, 1));
+}
+
+// PY_UNWIND is wanted everywhere for the tools 1 and 2, and tool 2 alone has a callback for it.
+#[test]
+fn an_exception_that_leaves_a_frame_is_heard(rt: HostRuntime) {
+    let alloc = rt.alloc();
+    let Ok(mut board) = board(
+        alloc,
+        &[
+            0x0018_0000,
+            0,
+            0,
+            0x0100_0000,
+            0x0100_0000,
+            0,
+            0,
+            0xffff_ff00_0000_1515,
+        ],
+    ) else {
+        panic!(rt; "no memory")
+    };
+    let events = unwinds(alloc).expect(&rt, "memory");
+    let records = unwound_over(alloc, &mut board, events.as_slice()).expect(&rt, "memory");
+    assert!(rt; are(&records, &[(2, Event::PyUnwind)]));
+    let Some(delivery) = records.get(0) else {
+        panic!(rt; "a record is lost")
+    };
+    let name = [
+        'Z', 'e', 'r', 'o', 'D', 'i', 'v', 'i', 's', 'i', 'o', 'n', 'E', 'r', 'r', 'o', 'r', '(',
+        ')',
+    ];
+    assert!(rt; delivery.first() == name.as_slice());
 }
