@@ -20,7 +20,7 @@ use std::test::Fail;
 #[derive(Clone, Copy)]
 struct Loaded {
     is_location: bool,
-    number: u32,
+    number: usize,
 }
 
 /// Words that nobody changes, of which each load of a location answers the most instrumented opcode in place. It keeps the
@@ -61,7 +61,7 @@ impl<R: Abort> Handle for LoudWords<'_, R> {
     fn load(&mut self, location: u32) -> u64 {
         let loaded = Loaded {
             is_location: true,
-            number: location,
+            number: location as usize,
         };
         note(self.rt, &mut self.loads, loaded);
         let word = self.words[location as usize];
@@ -83,14 +83,14 @@ impl<R: Abort> Handle for LoudWords<'_, R> {
     fn callbacks(&mut self, tool: u8) -> u64 {
         let loaded = Loaded {
             is_location: false,
-            number: u32::from(tool),
+            number: tool as usize,
         };
         note(self.rt, &mut self.loads, loaded);
         self.callbacks[tool as usize]
     }
 
     fn poll(&mut self) -> bool {
-        if self.is_asked || self.polls == 100 {
+        if self.is_asked || self.polls >= 100 {
             unimplemented!(self.rt)
         }
         self.polls += 1;
@@ -340,5 +340,75 @@ fn other_words_give_the_same_records(rt: HostRuntime) -> Result<(), Fail> {
     assert!(rt; goes_so(&rt, rt.alloc(), &whole)?);
     assert!(rt; goes_so(&rt, rt.alloc(), &spent)?);
     assert!(rt; goes_so(&rt, rt.alloc(), &asked)?);
+    Ok(())
+}
+
+/// A callback word that keeps INSTRUCTION.
+const INSTRUCTION: u64 = 1 << 10;
+
+/// A callback word that keeps BRANCH, JUMP, PY_RETURN and PY_START.
+const OTHERS: u64 = 1 + (1 << 12) + (1 << 18) + (1 << 20);
+
+#[test]
+fn tools_hear_what_they_keep_in_order(rt: HostRuntime) -> Result<(), Fail> {
+    let six: [Heard; 11] = [
+        (1, 0, Event::Line, 2, 0, &[]),
+        (1, 1, Event::Line, 2, 0, &[]),
+        (1, 3, Event::Line, 2, 0, &[]),
+        (1, 4, Event::Line, 2, 0, &[]),
+        (1, 5, Event::Line, 2, 0, &[]),
+        (3, 0, Event::Line, 3, 0, &[]),
+        (3, 1, Event::Line, 3, 0, &[]),
+        (3, 2, Event::Line, 3, 0, &[]),
+        (3, 3, Event::Line, 3, 0, &[]),
+        (3, 4, Event::Line, 3, 0, &[]),
+        (3, 5, Event::Line, 3, 0, &[]),
+    ];
+    let six_tools = Case {
+        from: 0,
+        callbacks: [LINE; 6],
+        asking: 0,
+        most: 100,
+        stop: Stop::Ended,
+        steps: 5,
+        polls: 1,
+        want: &six,
+    };
+    let three: [Heard; 10] = [
+        (0, 3, Event::Instruction, 0, 0, &[]),
+        (0, 0, Event::PyStart, 0, 0, &[]),
+        (1, 5, Event::Line, 2, 0, &[]),
+        (1, 3, Event::Instruction, 2, 0, &[]),
+        (2, 3, Event::Instruction, 4, 0, &[]),
+        (2, 0, Event::Branch, 4, 16, &[]),
+        (3, 5, Event::Line, 3, 0, &[]),
+        (3, 3, Event::Instruction, 16, 0, &[]),
+        (4, 3, Event::Instruction, 18, 0, &[]),
+        (4, 0, Event::PyReturn, 18, 0, &['0']),
+    ];
+    let each_event = Case {
+        callbacks: [OTHERS, 0, 0, INSTRUCTION, 0, LINE],
+        want: &three,
+        ..six_tools
+    };
+    let others: [Heard; 6] = [
+        (0, 0, Event::PyStart, 0, 0, &[]),
+        (2, 0, Event::Branch, 4, 6, &[]),
+        (7, 0, Event::Jump, 14, 2, &[]),
+        (9, 0, Event::Branch, 4, 16, &[]),
+        (11, 0, Event::PyReturn, 18, 0, &['0']),
+        (11, 5, Event::PyReturn, 18, 0, &['0']),
+    ];
+    let jump = Case {
+        from: 1,
+        callbacks: [OTHERS, 0, 0, 0, 0, 1 << 18],
+        steps: 12,
+        polls: 2,
+        want: &others,
+        ..six_tools
+    };
+    for case in [six_tools, each_event, jump] {
+        assert!(rt; goes_so(&rt, rt.alloc(), &case)?);
+    }
     Ok(())
 }

@@ -26,10 +26,10 @@ at_most_three false false false = lit≤ tt
 loud : (c : Cell) (n m : ℕ) → m ≡ n - n % 256 + 128 → Allowed c (m % 256)
 loud c n m e = (3, lit≤ tt, at_most_three (ltb 0 (enabled_in c 0)) (ltb 0 (enabled_in c 1)) (ltb 0 (enabled_in c 2)), (parts n m e).3)
 
-abbrev pub load_of : Loaded → Load
+abbrev load_of : Loaded → Load
 load_of l = cond l.is_location (LoadOf l.number 0) (Callbacks l.number)
 
-abbrev pub told_of : (words callbacks : List ℕ) → Bool → (polls polled : ℕ) → List Load → Told
+abbrev told_of : (words callbacks : List ℕ) → Bool → (polls polled : ℕ) → List Load → Told
 told_of words callbacks attached polls polled loads = record { number = 0; first = record { global = 0; callbacks = callbacks; cells = map cell_of words }; seen = []; own = []; attached = attached; count = 0; tally = record no_tally { polls = polls; polled = polled; loads = loads } }
 
 loads : (words callbacks : List ℕ) (attached : Bool) (polls polled : ℕ) (before after : List Loaded) (l n m : ℕ) → l < length words → n ≡ get_or words l n → m ≡ n - n % 256 + 128 → after ≡ before ++ record { is_location = true; number = l } ∷ [] → Loads (told_of words callbacks attached polls polled (map load_of before)) l m (told_of words callbacks attached polls polled (map load_of after))
