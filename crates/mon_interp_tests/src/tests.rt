@@ -1,12 +1,13 @@
-ghost use Rattle.std.specs.Prelude.{◌≡◌, ◌≤◌, ℕ, Bool, true, false, [], ◌∷◌, map, pos, Option, Some, None, IfOk};
+ghost use Rattle.std.specs.Prelude.{◌≡◌, ℕ, Bool, true, false, [], ◌∷◌, ◌++◌, map, pos, Option, Some, None, IfOk};
 ghost use Rattle.mon_code.specs.declared.program.Location.{Location as LocationOf};
 ghost use Rattle.mon_values.specs.declared.value.Value.TheVariants.{Int, None as NoneValue};
 ghost use Rattle.mon_words.specs.History.{base_in};
 ghost use Rattle.mon_words.specs.Words.{cell_of};
 
 use mon_code::{Code, Location, Program};
+use mon_events::Event;
 use mon_interp::{Stop, Thread};
-use mon_recorders::Record;
+use mon_recorders::Records;
 use mon_values::text::Text;
 use mon_values::value::Value;
 use mon_words::{Handle, WorldStopped};
@@ -15,33 +16,54 @@ use std::alloc::{AllocError, Global};
 use std::process::Abort;
 use std::test::Fail;
 
-/// Words that nobody changes, of which each load answers the most instrumented opcode in place. It keeps the locations
-/// that were loaded, which are at most a hundred; any other call ends the test.
+/// A load of the word of a location, or of the callback word of a tool.
+#[derive(Clone, Copy)]
+struct Loaded {
+    is_location: bool,
+    number: usize,
+}
+
+/// Words that nobody changes, of which each load of a location answers the most instrumented opcode in place. It keeps the
+/// loads and counts the polls, of each at most so many, and one poll is answered by yes; any other call ends the test.
 #[derive(Drop)]
 struct LoudWords<'a, R: Abort> {
     rt: &'a R,
     words: Vec<u64>,
+    callbacks: [u64; 6],
     attached: bool,
-    loads: Vec<u32>,
+    loads: Vec<Loaded>,
+    polls: u64,
+    asking: u64,
+    is_asked: bool,
+}
+
+fn note(rt: &impl Abort, loads: &mut Vec<Loaded>, loaded: Loaded)
+    ensures { loads.new.items ≡ loads.old.items ++ loaded ∷ [] }
+{
+    if loads.len() == loads.capacity() {
+        unimplemented!(rt)
+    }
+    loads.push_reserved(loaded);
 }
 
 impl<R: Abort> Handle for LoudWords<'_, R> {
-    ghost use Rattle.std.specs.Prelude.{map, []};
+    ghost use Rattle.std.specs.Prelude.{map, cond, []};
     ghost use Rattle.mon_words.specs.Tallies.{no_tally};
     ghost use Rattle.mon_words.specs.Words.{cell_of};
-    ghost use Rattle.mon_words.specs.declared.tally.Load.TheVariants.{Location as LoadOf};
+    ghost use Rattle.mon_words.specs.declared.tally.Load.TheVariants.{Location as LoadOf, Callbacks};
 
     type Rest = ();
 
-    ghost told = { λ w. record { number = 0; first = record { global = 0; callbacks = []; cells = map cell_of w.words.items }; seen = []; own = []; attached = w.attached; count = 0; tally = record no_tally { loads = map (λ l. LoadOf l 0) w.loads.items } } };
+    ghost told = { λ w. record { number = 0; first = record { global = 0; callbacks = w.callbacks; cells = map cell_of w.words.items }; seen = []; own = []; attached = w.attached; count = 0; tally = record no_tally { polls = w.polls; polled = cond w.is_asked 1 0; loads = map (λ l. cond l.is_location (LoadOf l.number 0) (Callbacks l.number)) w.loads.items } } };
 
     ghost rest = { λ w. tt };
 
     fn load(&mut self, location: u32) -> u64 {
-        if self.loads.len() == self.loads.capacity() {
-            unimplemented!(self.rt)
-        }
-        self.loads.push_reserved(location);
+        let loaded = Loaded {
+            is_location: true,
+            number: location as usize,
+        };
+        note(self.rt, &mut self.loads, loaded);
         let word = self.words[location as usize];
         word - word % 256 + 128
     }
@@ -58,12 +80,22 @@ impl<R: Abort> Handle for LoudWords<'_, R> {
         unimplemented!(self.rt)
     }
 
-    fn callbacks(&mut self, _tool: u8) -> u64 {
-        unimplemented!(self.rt)
+    fn callbacks(&mut self, tool: u8) -> u64 {
+        let loaded = Loaded {
+            is_location: false,
+            number: tool as usize,
+        };
+        note(self.rt, &mut self.loads, loaded);
+        self.callbacks[tool as usize]
     }
 
     fn poll(&mut self) -> bool {
-        unimplemented!(self.rt)
+        if self.is_asked || self.polls >= 100 {
+            unimplemented!(self.rt)
+        }
+        self.polls += 1;
+        self.is_asked = self.polls == self.asking;
+        self.is_asked
     }
 
     fn try_enter(&mut self) -> Result<(), WorldStopped> {
@@ -78,20 +110,21 @@ impl<R: Abort> Handle for LoudWords<'_, R> {
 /// `def g(n):`, `    while n: n -= 1`, `    return n`: its base opcodes.
 const BASES: [u8; 12] = [1, 3, 22, 3, 2, 8, 4, 21, 3, 29, 2, 29];
 
-/// A word for each: LINE is wanted for the tools 1, 2 and 4, and INSTRUCTION for tool 3; LINE is not live for tool 2.
+/// A word for each: LINE is wanted for each tool, INSTRUCTION for tool 3, and the event of the opcode for the tools 0 and 5.
+/// All is live, but LINE for tool 2 at the last line alone.
 const WORDS: [u64; 12] = [
-    0xffff_fb00_0216_0101,
-    0xffff_fb00_0216_0303,
-    0xffff_fb00_0216_1616,
-    0xffff_fb00_0216_0303,
-    0xffff_fb00_0216_0202,
-    0xffff_fb00_0216_0808,
-    0xffff_fb00_0216_0404,
-    0xffff_fb00_0216_1515,
-    0xffff_fb00_0216_0303,
-    0xffff_fb00_0216_1d1d,
-    0xffff_fb00_0216_0202,
-    0xffff_fb00_0216_1d1d,
+    0xffff_fb02_123f_0101,
+    0xffff_fb02_123f_0303,
+    0xffff_fb02_123f_1616,
+    0xffff_fb02_123f_0303,
+    0xffff_fb02_123f_0202,
+    0xffff_fb02_123f_0808,
+    0xffff_fb02_123f_0404,
+    0xffff_fb02_123f_1515,
+    0xffff_ff02_123f_0303,
+    0xffff_fb02_123f_1d1d,
+    0xffff_fb02_123f_0202,
+    0xffff_fb02_123f_1d1d,
 ];
 
 fn at(argument: u32, line: Option<u32>, is_marked: bool, is_safe: bool, stack: u32) -> Location
@@ -186,61 +219,196 @@ fn program(alloc: Global) -> Result<Program, AllocError>
     Ok(Program::new(names, named, codes, bases))
 }
 
-fn loud_words<'a, R: Abort>(rt: &'a R, alloc: Global) -> Result<LoudWords<'a, R>, AllocError>
+fn loud_words<'a, R: Abort>(
+    rt: &'a R,
+    alloc: Global,
+    callbacks: [u64; 6],
+    asking: u64,
+) -> Result<LoudWords<'a, R>, AllocError>
     ensures bases { IfOk result (λ w. map base_in (map cell_of w.words.items) ≡ 1 ∷ 3 ∷ 22 ∷ 3 ∷ 2 ∷ 8 ∷ 4 ∷ 21 ∷ 3 ∷ 29 ∷ 2 ∷ 29 ∷ []) }
     ensures attached { IfOk result (λ w. w.attached ≡ true) }
 {
     Ok(LoudWords {
         rt,
         words: Vec::from_slice(alloc, &WORDS)?,
+        callbacks,
         attached: true,
-        loads: Vec::with_capacity(alloc, 100)?,
+        loads: Vec::with_capacity(alloc, 200)?,
+        polls: 0,
+        asking,
+        is_asked: false,
     })
 }
 
-/// A record's step, tool and line.
-type Heard = (u64, u8, u32);
+/// A record's step, tool, event, line or offset, offset that is gone to, and first value.
+type Heard<'a> = (u64, u8, Event, u32, u32, &'a [char]);
 
-fn are_heard(records: &[Record], want: &[Heard]) -> bool {
-    records
-        .iter()
-        .map(|record| (record.step, record.tool, record.at))
-        .eq(want.iter().copied())
+/// A countdown from a number: the callback words, the poll that is answered by yes, counted from 1, and the most steps; then
+/// where it stops, the steps that were done, the polls, and the records.
+#[derive(Clone, Copy)]
+struct Case<'a> {
+    from: i64,
+    callbacks: [u64; 6],
+    asking: u64,
+    most: u64,
+    stop: Stop,
+    steps: u64,
+    polls: u64,
+    want: &'a [Heard<'a>],
 }
 
-/// Whether a countdown from 2 stops so after at most so many steps, with a load for each of them.
-fn counts_down(
-    rt: &impl Abort,
-    alloc: Global,
-    steps: u64,
-    stop: Stop,
-    done: u64,
-    want: &[Heard],
-) -> Result<bool, AllocError>
-    requires { steps ≤ 200000 }
-{
+fn are_heard(records: &Records, want: &[Heard]) -> bool {
+    for (index, (step, tool, event, at, dest, first)) in want.iter().enumerate() {
+        let Some(delivery) = records.get(index) else {
+            return false;
+        };
+        if delivery.step() != *step || delivery.tool() != *tool || delivery.event() != *event {
+            return false;
+        }
+        if delivery.at() != *at || delivery.dest() != *dest || delivery.first() != *first {
+            return false;
+        }
+    }
+    records.len() == want.len()
+}
+
+/// How many words of locations were loaded.
+fn location_loads(loads: &[Loaded]) -> usize {
+    loads.iter().filter(|loaded| loaded.is_location).count()
+}
+
+/// Whether a countdown goes so, with a load of a location's word for each step.
+fn goes_so(rt: &impl Abort, alloc: Global, case: &Case) -> Result<bool, AllocError> {
     let program = program(alloc)?;
-    let mut words = loud_words(rt, alloc)?;
-    let Ok(mut thread) = Thread::new(alloc, &program, "π", &[Value::Int(2)]) else {
+    let mut words = loud_words(rt, alloc, case.callbacks, case.asking)?;
+    let Ok(mut thread) = Thread::new(alloc, &program, "π", &[Value::Int(case.from)]) else {
         return Ok(false);
     };
     if thread.steps() > 0 {
         return Ok(false);
     }
-    let stopped = thread.advance(&program, &mut words, steps);
+    let stopped = thread.advance(&program, &mut words, case.most.min(100));
     let report = thread.finish();
     Ok(
-        stopped == Ok(stop)
-            && report.steps == done
-            && words.loads.len() as u64 == done
-            && are_heard(report.records.as_slice(), want),
+        stopped == Ok(case.stop)
+            && report.steps == case.steps
+            && words.polls == case.polls
+            && location_loads(words.loads.as_slice()) as u64 == case.steps
+            && are_heard(&report.records, case.want),
     )
 }
 
+/// A callback word that keeps LINE.
+const LINE: u64 = 1 << 14;
+
 #[test]
 fn other_words_give_the_same_records(rt: HostRuntime) -> Result<(), Fail> {
-    let lines = [(1, 1, 2), (1, 4, 2), (17, 1, 3), (17, 4, 3)];
-    assert!(rt; counts_down(&rt, rt.alloc(), 100, Stop::Ended, 19, &lines)?);
-    assert!(rt; counts_down(&rt, rt.alloc(), 17, Stop::Spent, 17, &lines[..2])?);
+    let callbacks = [0, LINE, 0, 0, LINE, 0];
+    let lines: [Heard; 4] = [
+        (1, 1, Event::Line, 2, 0, &[]),
+        (1, 4, Event::Line, 2, 0, &[]),
+        (17, 1, Event::Line, 3, 0, &[]),
+        (17, 4, Event::Line, 3, 0, &[]),
+    ];
+    let whole = Case {
+        from: 2,
+        callbacks,
+        asking: 0,
+        most: 100,
+        stop: Stop::Ended,
+        steps: 19,
+        polls: 3,
+        want: &lines,
+    };
+    let spent = Case {
+        most: 17,
+        stop: Stop::Spent,
+        steps: 17,
+        want: &lines[..2],
+        ..whole
+    };
+    let asked = Case {
+        from: 3,
+        callbacks,
+        asking: 4,
+        most: 100,
+        stop: Stop::Asked,
+        steps: 21,
+        polls: 4,
+        want: &lines[..2],
+    };
+    assert!(rt; goes_so(&rt, rt.alloc(), &whole)?);
+    assert!(rt; goes_so(&rt, rt.alloc(), &spent)?);
+    assert!(rt; goes_so(&rt, rt.alloc(), &asked)?);
+    Ok(())
+}
+
+/// A callback word that keeps INSTRUCTION.
+const INSTRUCTION: u64 = 1 << 10;
+
+/// A callback word that keeps BRANCH, JUMP, PY_RETURN and PY_START.
+const OTHERS: u64 = 1 + (1 << 12) + (1 << 18) + (1 << 20);
+
+#[test]
+fn tools_hear_what_they_keep_in_order(rt: HostRuntime) -> Result<(), Fail> {
+    let six: [Heard; 11] = [
+        (1, 0, Event::Line, 2, 0, &[]),
+        (1, 1, Event::Line, 2, 0, &[]),
+        (1, 3, Event::Line, 2, 0, &[]),
+        (1, 4, Event::Line, 2, 0, &[]),
+        (1, 5, Event::Line, 2, 0, &[]),
+        (3, 0, Event::Line, 3, 0, &[]),
+        (3, 1, Event::Line, 3, 0, &[]),
+        (3, 2, Event::Line, 3, 0, &[]),
+        (3, 3, Event::Line, 3, 0, &[]),
+        (3, 4, Event::Line, 3, 0, &[]),
+        (3, 5, Event::Line, 3, 0, &[]),
+    ];
+    let six_tools = Case {
+        from: 0,
+        callbacks: [LINE; 6],
+        asking: 0,
+        most: 100,
+        stop: Stop::Ended,
+        steps: 5,
+        polls: 1,
+        want: &six,
+    };
+    let three: [Heard; 10] = [
+        (0, 3, Event::Instruction, 0, 0, &[]),
+        (0, 0, Event::PyStart, 0, 0, &[]),
+        (1, 5, Event::Line, 2, 0, &[]),
+        (1, 3, Event::Instruction, 2, 0, &[]),
+        (2, 3, Event::Instruction, 4, 0, &[]),
+        (2, 0, Event::Branch, 4, 16, &[]),
+        (3, 5, Event::Line, 3, 0, &[]),
+        (3, 3, Event::Instruction, 16, 0, &[]),
+        (4, 3, Event::Instruction, 18, 0, &[]),
+        (4, 0, Event::PyReturn, 18, 0, &['0']),
+    ];
+    let each_event = Case {
+        callbacks: [OTHERS, 0, 0, INSTRUCTION, 0, LINE],
+        want: &three,
+        ..six_tools
+    };
+    let others: [Heard; 6] = [
+        (0, 0, Event::PyStart, 0, 0, &[]),
+        (2, 0, Event::Branch, 4, 6, &[]),
+        (7, 0, Event::Jump, 14, 2, &[]),
+        (9, 0, Event::Branch, 4, 16, &[]),
+        (11, 0, Event::PyReturn, 18, 0, &['0']),
+        (11, 5, Event::PyReturn, 18, 0, &['0']),
+    ];
+    let jump = Case {
+        from: 1,
+        callbacks: [OTHERS, 0, 0, 0, 0, 1 << 18],
+        steps: 12,
+        polls: 2,
+        want: &others,
+        ..six_tools
+    };
+    for case in [six_tools, each_event, jump] {
+        assert!(rt; goes_so(&rt, rt.alloc(), &case)?);
+    }
     Ok(())
 }
