@@ -24,7 +24,8 @@ struct Loaded {
 }
 
 /// Words that nobody changes, of which each load of a location answers the most instrumented opcode in place. It keeps the
-/// loads and counts the polls, of each at most so many, and one poll is answered by yes; any other call ends the test.
+/// loads, as far as there is room, and counts the polls, which are at most a hundred. The poll of the number `asking`, counted
+/// from 1, is answered by yes. Any other call ends the test.
 #[derive(Drop)]
 struct LoudWords<'a, R: Abort> {
     rt: &'a R,
@@ -111,7 +112,7 @@ impl<R: Abort> Handle for LoudWords<'_, R> {
 const BASES: [u8; 12] = [1, 3, 22, 3, 2, 8, 4, 21, 3, 29, 2, 29];
 
 /// A word for each: LINE is wanted for each tool, INSTRUCTION for tool 3, and the event of the opcode for the tools 0 and 5.
-/// All is live, but LINE for tool 2 at the last line alone.
+/// All is live, except that LINE for tool 2 is so at the last line alone.
 const WORDS: [u64; 12] = [
     0xffff_fb02_123f_0101,
     0xffff_fb02_123f_0303,

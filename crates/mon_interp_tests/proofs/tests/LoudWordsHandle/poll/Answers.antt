@@ -1,4 +1,4 @@
-use Rattle.std.proofs.Common.{◌≡◌, ℕ, ◌+◌, List, [], map, Bool, true, false, cond, refl, ap}
+use Rattle.std.proofs.Common.{◌≡◌, ℕ, ◌+◌, List, [], map, Bool, true, false, cond, refl}
 use Rattle.std.specs.Prelude.{if◌then◌else◌}
 use Rattle.mon_words.specs.Tallies.{no_tally}
 use Rattle.mon_words.specs.Words.{cell_of}
