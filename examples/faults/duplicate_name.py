@@ -1,0 +1,5 @@
+def f(n):
+    return n
+
+def f(n):
+    return 0
