@@ -71,12 +71,12 @@ tools_entries test e t (suc n) h =
     let a = tools_entries test e t n (omega arith) in let b = one_entry (test n) e t n (omega arith) in
     entries_behind 0 (for_tools test (mark_of t e) n) (cond (test n) (mark_of t e n ∷ []) []) (tools_none test e t n) ∙ (λ i. a i ++ b i)
 
-made_none : (test : ℕ → Happening → Bool) (t : ℕ) (es : List Happening) → puts (delivered test (mark_of t) es) ≡ []
+pub made_none : (test : ℕ → Happening → Bool) (t : ℕ) (es : List Happening) → puts (delivered test (mark_of t) es) ≡ []
 made_none test t [] = refl
 made_none test t (e ∷ es) = puts_append (for_tools (λ u. test u e) (mark_of t e) 6) (delivered test (mark_of t) es) (tools_none (λ u. test u e) e t 6) (made_none test t es)
 
 -- the marks of a step, as entries
-made_entries : (test : ℕ → Happening → Bool) (t : ℕ) (es : List Happening) → entries 0 (delivered test (mark_of t) es) ≡ delivered test (entry_of t) es
+pub made_entries : (test : ℕ → Happening → Bool) (t : ℕ) (es : List Happening) → entries 0 (delivered test (mark_of t) es) ≡ delivered test (entry_of t) es
 made_entries test t [] = refl
 made_entries test t (e ∷ es) =
     let a = tools_entries (λ u. test u e) e t 6 (omega arith) in let b = made_entries test t es in
@@ -96,7 +96,7 @@ own_one : (b : Bool) (m : Mark) (e : Entry) (ms : List Mark) (H : List Entry) �
 own_one true m e ms H is h = ap (λ z. e ∷ z) h ∙ sym is
 own_one false m e ms H is h = h
 
-own_entries : (t n : ℕ) (W : List Mark) → own t (entries n W) ≡ entries 0 (offs t W)
+pub own_entries : (t n : ℕ) (W : List Mark) → own t (entries n W) ≡ entries 0 (offs t W)
 own_entries t n [] = refl
 own_entries t n (Off u l k ∷ ms) = own_one (eqb u t) (Off u l k) (Entry.Disable u l (slot_of k) (tool_of k)) (offs t ms) (own t (entries n ms)) refl (own_entries t n ms)
 own_entries t n (Put c b ∷ ms) = own_entries t (suc n) ms
