@@ -1,5 +1,5 @@
 -- The laws of the plain machine.
-use Rattle.std.specs.Prelude.{ℕ, ◌+◌, ◌≤◌, ◌≡◌, Bool, true, false, List, ◌++◌, length, drop, Some, slice_get}
+use Rattle.std.specs.Prelude.{ℕ, ◌+◌, ◌<◌, ◌≤◌, ◌≡◌, Bool, true, false, List, ◌++◌, length, drop, Some, slice_get}
 use Rattle.std.specs.List.{AllByRecursion}
 use Rattle.mon_values.specs.declared.value.Value.{Value}
 use Rattle.mon_events.specs.declared.event.Event.{Event}
@@ -121,3 +121,10 @@ LineMarks = (p : Parts) (k : ℕ) (c : Code) (args : List Value) → IsCall p k 
 -- and each event stands where its kind says
 abbrev pub ProperEvents : Type 0
 ProperEvents = (p : Parts) (k : ℕ) (c : Code) (args : List Value) → IsCall p k c args → (n : ℕ) → AreProper (sites_of p) (step p (after_steps p (start c k args) n)).events
+
+-- what happens names a code of the program
+abbrev pub NamesCode : Parts → Happening → Type 0
+NamesCode p h = h.code < length p.codes
+
+abbrev pub EventsNameCodes : Type 0
+EventsNameCodes = (p : Parts) (k : ℕ) (c : Code) (args : List Value) → IsCall p k c args → (n : ℕ) → AllByRecursion (NamesCode p) (events_at p k c args n)

@@ -1,7 +1,7 @@
 ghost use Rattle.mon_machine.specs.AdvanceExamples.{WorkedAdvance};
 ghost use Rattle.mon_machine.specs.AdvanceLaws.{StepsAddUp, StayingAddsUp, PausesAddUp, RunsJoin, RunsContinue, EventsStandAtSteps, LoadsStandAtSteps, BareRuns, LinesAreKept};
 ghost use Rattle.mon_machine.specs.LastLines.{LastLinesAreForEvents};
-ghost use Rattle.mon_machine.specs.Laws.{DepthsAsRecorded, GoesOnByOne, LimitsAreBounds, LineMarks, NeverStuck, ProperEvents, RunsAddUp};
+ghost use Rattle.mon_machine.specs.Laws.{DepthsAsRecorded, EventsNameCodes, GoesOnByOne, LimitsAreBounds, LineMarks, NeverStuck, ProperEvents, RunsAddUp};
 
 /// A run goes on step by step, and a thread that does not go on stands still.
 pub fn goes_on_by_one()
@@ -45,6 +45,11 @@ pub fn line_marks()
 /// CALL is the event of a location, or one that is global alone.
 pub fn proper_events()
     ensures { ProperEvents }
+{}
+
+/// Each event of such a thread names a code of the program.
+pub fn events_name_codes()
+    ensures { EventsNameCodes }
 {}
 
 /// An advance is made of its steps, and of the polls before them.
