@@ -5,3 +5,4 @@ pub mod Policies
 pub mod Accepting
 pub mod Committing
 pub mod Beginning
+pub mod Noting

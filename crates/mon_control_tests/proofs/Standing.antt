@@ -1,10 +1,9 @@
 -- What calls leave of a registry over a plain board.
-use Rattle.std.proofs.Common.{◌≡◌, ℕ, zero, suc, ◌<◌, ◌≤◌, List, [], ◌∷◌, ◌++◌, take, length, get_or, Some, None, unwrap_or, sym, refl, ap, ◌∙◌, subst, arith}
-use Rattle.std.proofs.lemmas.List.{take_all}
+use Rattle.std.proofs.Common.{◌≡◌, ℕ, ◌<◌, List, [], ◌∷◌, ◌++◌, length, get_or, Some, None, sym, refl, ap, ◌∙◌, subst, arith}
 use Rattle.mon_code.specs.Checked.{IsChecked}
 use Rattle.mon_code.specs.Programs.{Parts}
 use Rattle.mon_code.specs.Sites.{sites_of}
-use Rattle.mon_words.specs.Standing.{table, count_of, board_of}
+use Rattle.mon_words.specs.Standing.{table, noted_of, count_of, board_of}
 use Rattle.mon_words.specs.Words.{first_words}
 use Rattle.mon_words.specs.declared.history.Board.{Board}
 use Rattle.mon_words.specs.declared.history.Mark.{Mark}
@@ -19,16 +18,8 @@ use Rattle.mon_history.specs.declared.journal.JournalLine.{JournalLine}
 use Rattle.mon_history.proofs.Growing.{stands_quiet}
 use Rattle.mon_instrument.proofs.Firsts.{first_stands}
 use Rattle.mon_control.specs.View.{Shown, line_of, Commits}
+use Rattle.mon_control.proofs.Noting.{noted_counts}
 use Rattle.mon_control_tests.specs.Ready.{IsReady}
-
-take_or : (xs : List ℕ) (n : ℕ) → n < length xs → take (suc n) xs ≡ take n xs ++ get_or xs n 0 ∷ []
-take_or [] n h = absurd (omega arith)
-take_or (x ∷ xs) zero h = refl
-take_or (x ∷ xs) (suc n) h = ap (λ (z : List ℕ). x ∷ z) (take_or xs n (omega arith))
-
-table_front : (xs : List ℕ) (f : ℕ → ℕ) (n : ℕ) → n ≤ length xs → ((t : ℕ) → t < length xs → f t ≡ get_or xs t 0) → table n f ≡ take n xs
-table_front xs f zero h e = refl
-table_front xs f (suc n) h e = let a = table_front xs f n (omega arith) e in let b = e n (omega arith) in (λ i. a i ++ b i ∷ []) ∙ sym (take_or xs n (omega arith))
 
 -- no call was made, and the board is that of the first words
 pub begun : (p : Parts) (c : Shown) (v : PlainView) (threads : ℕ) (bases : List ℕ) → IsChecked p → bases ≡ p.bases → ((l : ℕ) → get_or bases l 0 < 256) → c.journal ≡ [] → c.threads ≡ threads → c.codes ≡ length p.codes
@@ -50,7 +41,7 @@ committed p c d v h x y who call r same threads codes made is =
     let wide = k.wide in
     let few : x.threads ≡ c.threads = k.threads_are ∙ r.threads in
     let noted : table x.threads (count_of x.noted) ≡ k.counts =
-    table_front k.counts (count_of x.noted) x.threads (omega arith) (λ t l. ap (λ o. unwrap_or o 0) (k.noted t (omega arith))) ∙ take_all x.threads k.counts (omega arith) in
+    noted_counts k.counts (noted_of x.noted) x.threads (wide ∙ sym few) (λ t l. k.noted t (omega arith)) in
     let first : y.first ≡ v.first = ap (λ (z : PlainView). z.first) is ∙ k.first in
     let seen : y.seen ≡ v.seen ++ Put k.counts (standing x) ∷ [] = ap (λ (z : PlainView). z.seen) is ∙ (λ i. k.seen i ++ Put (noted i) (standing x) ∷ []) in record {
       stands = subst (λ (z : Board × List Mark). StandsFor (sites_of p) d.journal z.0 z.1) (λ i. (sym first i, sym seen i)) k.stands;
