@@ -1,5 +1,5 @@
 use Rattle.std.proofs.Common.{length, ◌-◌, ◌≡◌, ◌≤◌}
-use Rattle.mon_main.proofs.system.StdoutSinkSink.write.Given as goal
+use Rattle.mon_outside.proofs.system.StdoutSinkSink.write.Given as goal
 
 abbrev pub invariant-loop-at : goal.invariant-loop-at
 invariant-loop-at g l = record {

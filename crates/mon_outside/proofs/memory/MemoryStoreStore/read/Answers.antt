@@ -1,10 +1,10 @@
 use Rattle.std.proofs.Common.{◌≡◌, ◌∙◌, ap, sym, List, min, length, ◌++◌, take, arith}
 use Rattle.std.proofs.lemmas.Grind.{common_steps}
 use Rattle.std.specs.Prelude.{Some}
-use Rattle.mon_main.specs.Memories.{contents_of}
-use Rattle.mon_main.specs.declared.memory.MemoryFile.{MemoryFile}
-use Rattle.mon_main.proofs.Told.{reads_first}
-use Rattle.mon_main.proofs.memory.MemoryStoreStore.read.Goals as goal
+use Rattle.mon_outside.specs.Memories.{contents_of}
+use Rattle.mon_outside.specs.declared.memory.MemoryFile.{MemoryFile}
+use Rattle.mon_outside.proofs.Contents.{reads_first}
+use Rattle.mon_outside.proofs.memory.MemoryStoreStore.read.Goals as goal
 
 pub returns-clause-bytes : goal.returns-clause-bytes
 returns-clause-bytes c =

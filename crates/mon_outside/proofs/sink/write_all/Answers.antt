@@ -1,7 +1,7 @@
 use Rattle.std.proofs.Common.{◌≤◌, ◌∙◌, length, arith}
 use Rattle.std.specs.Prelude.{Result, Ok, Err, OnErr}
-use Rattle.mon_main.proofs.Pieces.{writes_more, prefix_more}
-use Rattle.mon_main.proofs.sink.write_all.Goals as goal
+use Rattle.mon_outside.proofs.Pieces.{writes_more, prefix_more}
+use Rattle.mon_outside.proofs.sink.write_all.Goals as goal
 
 on_err : {T E P : Type 0} (r : Result T E) → P → OnErr r P
 on_err (Ok x) p = tt

@@ -1,7 +1,7 @@
 -- What a store and a sink do.
 use Rattle.std.specs.Prelude.{◌≡◌, ℕ, ◌+◌, ◌-◌, ◌^◌, ◌≤◌, min, List, ◌++◌, length, take, Option, Some, None, Result, Ok, Err}
-use Rattle.mon_main.specs.declared.store.StoreFault.{StoreFault}
-use Rattle.mon_main.specs.declared.store.StoreFault.TheVariants.{Failed, Memory}
+use Rattle.mon_outside.specs.declared.store.StoreFault.{StoreFault}
+use Rattle.mon_outside.specs.declared.store.StoreFault.TheVariants.{Failed, Memory}
 
 -- a count has risen, or stands at its end
 abbrev pub Rose : ℕ → ℕ → Type 0

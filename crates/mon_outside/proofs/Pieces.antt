@@ -2,7 +2,7 @@
 use Rattle.std.proofs.Common.{◌≡◌, ℕ, ◌+◌, ◌-◌, ◌≤◌, List, ◌++◌, length, take, drop, sym, ap, ◌∙◌, arith, append_assoc, subst}
 use Rattle.std.proofs.lemmas.List.{take-append-drop, drop-take, take-take, length-take-le, length-drop}
 use Rattle.std.specs.Prelude.{Option, Some, None}
-use Rattle.mon_main.specs.Outside.{Writes, WritesPrefix}
+use Rattle.mon_outside.specs.Outside.{Writes, WritesPrefix}
 
 take_seam : (xs : List ℕ) (i n : ℕ) → take i xs ++ take n (drop i xs) ≡ take (i + n) xs
 take_seam xs i n =

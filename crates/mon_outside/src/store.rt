@@ -1,11 +1,11 @@
 ghost use Rattle.std.specs.Prelude.{◌≡◌};
-ghost use Rattle.mon_main.specs.declared.store.StoreFault.TheVariants as store_fault;
+ghost use Rattle.mon_outside.specs.declared.store.StoreFault.TheVariants as store_fault;
 
 use std::alloc::{AllocError, Global};
 use thiserror::Error;
 
 /// The most bytes that one read appends: one more than a file may have.
-pub(crate) const READ_LIMIT: usize = 262_145;
+pub const READ_LIMIT: usize = 262_145;
 
 /// Why contents were not read.
 #[derive(Clone, Copy, Debug, PartialEq, Eq, Error)]
@@ -28,7 +28,7 @@ impl From<AllocError> for StoreFault {
 /// Named contents.
 pub trait Store {
     ghost use Rattle.std.specs.Prelude.{◌≡◌, ℕ, List, Option, OnOk, OnErr};
-    ghost use Rattle.mon_main.specs.Outside.{ReadsAll, ReadCause};
+    ghost use Rattle.mon_outside.specs.Outside.{ReadsAll, ReadCause};
 
     /// What a name stands for, where the store tells it.
     ghost holds: { Self → List ℕ → Option (List ℕ) };

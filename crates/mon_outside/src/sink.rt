@@ -1,5 +1,5 @@
 ghost use Rattle.std.specs.Prelude.{◌≡◌, OnOk, OnErr};
-ghost use Rattle.mon_main.specs.Outside.{Writes, WritesPrefix, Rose};
+ghost use Rattle.mon_outside.specs.Outside.{Writes, WritesPrefix, Rose};
 
 use thiserror::Error;
 
@@ -14,7 +14,7 @@ pub enum SinkFault {
 /// What takes bytes.
 pub trait Sink {
     ghost use Rattle.std.specs.Prelude.{◌≡◌, ℕ, List, [], Option, IsOk, OnOk, OnErr};
-    ghost use Rattle.mon_main.specs.Outside.{Writes, WritesPrefix, Rose};
+    ghost use Rattle.mon_outside.specs.Outside.{Writes, WritesPrefix, Rose};
 
     /// The bytes written, where the sink tells them.
     ghost written: { Self → Option (List ℕ) };

@@ -1,6 +1,6 @@
 use Rattle.std.proofs.Common.{◌≡◌, ◌≤◌, ◌-◌, length, take}
-use Rattle.mon_main.specs.Outside.{Writes}
-use Rattle.mon_main.proofs.sink.write_all.Given as goal
+use Rattle.mon_outside.specs.Outside.{Writes}
+use Rattle.mon_outside.proofs.sink.write_all.Given as goal
 
 abbrev pub invariant-loop-at : goal.invariant-loop-at
 invariant-loop-at g l = record {

@@ -1,5 +1,5 @@
 ghost use Rattle.std.specs.Prelude.{◌≡◌, None, MatchOption, Some};
-ghost use Rattle.mon_main.specs.Memories.{contents_of};
+ghost use Rattle.mon_outside.specs.Memories.{contents_of};
 
 use crate::sink::{Sink, SinkFault};
 use crate::store::{READ_LIMIT, Store, StoreFault};
@@ -44,7 +44,7 @@ impl MemoryStore {
 impl Store for MemoryStore {
     ghost use Rattle.std.specs.Prelude.{string_bytes};
     ghost use Rattle.std.specs.Option.{option_map};
-    ghost use Rattle.mon_main.specs.Memories.{contents_of};
+    ghost use Rattle.mon_outside.specs.Memories.{contents_of};
 
     ghost holds = { λ s name. contents_of s.files.items name };
 

@@ -1,7 +1,7 @@
 -- A store in memory.
 use Rattle.std.specs.Prelude.{ℕ, List, [], ◌∷◌, Option, Some, None, if◌then◌else◌, string_bytes}
 use Rattle.std.specs.Str.{bytes_eq}
-use Rattle.mon_main.specs.declared.memory.MemoryFile.{MemoryFile}
+use Rattle.mon_outside.specs.declared.memory.MemoryFile.{MemoryFile}
 
 -- the contents of the first file with this name
 abbrev pub contents_of : List MemoryFile → List ℕ → Option (List ℕ)
