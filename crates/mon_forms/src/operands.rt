@@ -11,8 +11,8 @@ use mon_history::Policy;
 use mon_values::text::{Text, TextBuffer};
 use std::alloc::{AllocError, Global};
 
-/// The value of 1 to 18 digits.
-fn digits_value(word: &[u8]) -> Option<u64>
+/// The value of 1 to 18 decimal digits; None for other words.
+pub fn digits_value(word: &[u8]) -> Option<u64>
     ensures value { result ≡ spec.digits_value word.now }
     ensures bound { IfSome result (λ n. n < 10 ^ 18) }
 {

@@ -1,10 +1,7 @@
-pub mod Answer
 pub mod Commands
-pub mod Memories
-pub mod Outside
-pub mod Plans
-pub mod Replies
-pub mod Serial
-pub mod Sources
 pub mod Statuses
-pub mod Texts
+pub mod Sources
+pub mod Answers
+pub mod Replies
+pub mod Hosts
+pub mod Laws

@@ -1,8 +1,9 @@
--- The faults of FILE and of its module, and the lines that name them.
+-- The faults of FILE, of its module and of PLAN, and the lines that name them.
 use Rattle.std.specs.Prelude.{ℕ, List, [], ◌++◌, Option, Some, None, Result, Ok, Err, codes}
 use Rattle.std.specs.Fmt.{decimal}
 use Rattle.mon_lexer.specs.declared.token.LexFault.{LexFault}
 use Rattle.mon_lexer.specs.declared.token.LexFault.TheVariants as lexical
+use Rattle.mon_forms.specs.declared.plan.PlanKind.{PlanKind}
 use Rattle.mon_compile.specs.declared.fault.CompileFault.{CompileFault}
 use Rattle.mon_compile.specs.declared.fault.CompileFault.TheVariants as compile
 use Rattle.mon_parser.specs.Texts.{ReadAs, Misspelled, Underived, Parsed}
@@ -33,6 +34,17 @@ uncompiled_line (compile.TooLarge line) = codes "source TooLarge " ++ decimal li
 uncompiled_line compile.TooManyLocations = codes "source TooManyLocations\n"
 uncompiled_line (compile.NotBuilt line) = []
 uncompiled_line compile.Memory = []
+
+abbrev pub kind_word : PlanKind → List ℕ
+kind_word PlanKind.Word = codes "Word"
+kind_word PlanKind.Order = codes "Order"
+kind_word PlanKind.TooMany = codes "TooMany"
+kind_word PlanKind.Number = codes "Number"
+kind_word PlanKind.Name = codes "Name"
+
+-- the first faulty line of PLAN
+abbrev pub plan_line : ℕ → PlanKind → List ℕ
+plan_line line kind = codes "plan " ++ decimal line ++ codes " " ++ kind_word kind ++ codes "\n"
 
 -- want of memory has no line
 abbrev pub fault_line : SourceFault → Option (List ℕ)

@@ -1,13 +1,20 @@
 -- The exit statuses by their numbers.
-use Rattle.std.specs.Prelude.{ℕ}
+use Rattle.std.specs.Prelude.{ℕ, Bool, true, false}
 use Rattle.mon_main.specs.declared.status.Status.{Status}
-use Rattle.mon_main.specs.declared.status.Status.TheVariants.{Done, Usage, Source, ReadFault, WriteFault, Memory, NotBuilt}
 
 abbrev pub code_of : Status → ℕ
-code_of Done = 0
-code_of Usage = 2
-code_of Source = 3
-code_of ReadFault = 5
-code_of WriteFault = 6
-code_of Memory = 7
-code_of NotBuilt = 8
+code_of Status.Done = 0
+code_of Status.Usage = 2
+code_of Status.Source = 3
+code_of Status.Plan = 4
+code_of Status.ReadFault = 5
+code_of Status.WriteFault = 6
+code_of Status.Memory = 7
+code_of Status.NotBuilt = 8
+
+-- whether the words, FILE and PLAN were answered
+abbrev pub is_answer : Status → Bool
+is_answer Status.ReadFault = false
+is_answer Status.WriteFault = false
+is_answer Status.Memory = false
+is_answer _ = true

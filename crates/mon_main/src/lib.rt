@@ -2,28 +2,16 @@
 #![tactic(auto)]
 
 mod command;
+mod fault;
 mod host;
-mod memory;
-mod plan;
-mod read;
+mod laws;
 mod reply;
-mod report;
-mod serial;
-mod sink;
 mod source;
 mod status;
-mod store;
-mod system;
 
-pub use command::replay_words;
+pub use command::{COMMANDS, Command, MAX_NUMBER, Operands, Request, requested, usage};
+pub use fault::ReplyFault;
 pub use host::host_serial;
-pub use memory::{MemoryFile, MemorySink, MemoryStore};
-pub use plan::{Plan, PlanFault};
-pub use read::read_plan;
-pub use report::print_report;
-pub use serial::run_serial;
-pub use sink::{Sink, SinkFault, write_all};
+pub use laws::{statuses_agree, texts_agree};
 pub use source::module;
 pub use status::Status;
-pub use store::{Store, StoreFault};
-pub use system::{FileStore, StdoutSink};

@@ -1,41 +1,43 @@
-ghost use Rattle.std.specs.Prelude.{◌≡◌, ℕ, List, [], None, Some, IfOk, IsErrOf, IsSome};
-ghost use Rattle.mon_main.specs.Answer as spec;
-ghost use Rattle.mon_main.specs.Commands.{replay_of, texts};
-ghost use Rattle.mon_parser.specs.Texts.{Reading};
-ghost use Rattle.mon_compile.specs.Faults.{compile_fault};
-ghost use Rattle.mon_main.specs.Outside.{ReadCause, ReadsAll};
-ghost use Rattle.mon_main.specs.Plans.{plan_of};
+ghost use Rattle.std.specs.Prelude.{◌≡◌, ℕ, List, [], Some, IfOk, Ok, Err};
+ghost use Rattle.std.specs.Option.{option_map};
+ghost use Rattle.mon_code.specs.Programs.{Parts};
+ghost use Rattle.mon_forms.specs.Plans.{plan_of};
 ghost use Rattle.mon_machine.specs.Laws.{AllRun};
-ghost use Rattle.mon_main.specs.Replies.{answer_of, ReplyCause};
+ghost use Rattle.mon_main.specs.Answers as spec;
+ghost use Rattle.mon_main.specs.Commands as request;
+ghost use Rattle.mon_main.specs.Commands.{asked, serial_request, texts};
+ghost use Rattle.mon_main.specs.Replies.{answer_of, IsProgram, ReplyCause};
+ghost use Rattle.mon_outside.specs.Outside.{ReadsAll};
+ghost use Rattle.mon_parser.specs.Texts.{Reading};
+ghost use Rattle.mon_trees.specs.declared.tree.Module.{Module};
 
-use crate::command::replay_words;
-use crate::plan::PlanFault;
-use crate::read::read_plan;
-use crate::report::print_report;
-use crate::serial::run_serial;
-use crate::source::{module, source_line, uncompiled_line};
+use crate::command::{Request, requested, usage};
+use crate::fault::ReplyFault;
+use crate::source::{module, plan_line, source_line, uncompiled_line};
 use crate::status::Status;
-use crate::store::{Store, StoreFault};
 use mon_code::Program;
 use mon_compile::{CompileFault, compile};
+use mon_forms::{PlanFault, print_dis, print_report, read_plan};
+use mon_outside::Store;
+use mon_run::serial;
 use mon_trees::tree::Module;
 use std::alloc::{AllocError, Global};
 
-const USAGE: &[u8] = b"usage: run FILE PLAN | replay FILE PLAN | dis FILE | gen NUMBER\n";
-
 const NOT_BUILT: &[u8] = b"not built yet\n";
 
-/// What a command has to say.
+/// What is said to a request.
 #[derive(Debug, Drop)]
 pub enum Reply {
-    /// The words are no command.
+    /// The forms of all commands.
     Usage,
     /// The line that names FILE's first fault.
     Source(String),
-    /// A file has a form that is not built yet.
+    /// The line that names PLAN's first faulty line.
+    Plan(String),
+    /// FILE has a form that is not built yet.
     NotBuilt,
-    /// The report of a run.
-    Report(Vec<u8>),
+    /// What was asked for.
+    Text(Vec<u8>),
 }
 
 impl Reply {
@@ -45,124 +47,144 @@ impl Reply {
         match self {
             Reply::Usage => Status::Usage,
             Reply::Source(_) => Status::Source,
+            Reply::Plan(_) => Status::Plan,
             Reply::NotBuilt => Status::NotBuilt,
-            Reply::Report(_) => Status::Done,
+            Reply::Text(_) => Status::Done,
         }
     }
 
-    #[tactic(auto, unfolding(crate::specs::Answer::usage_line, crate::specs::Answer::not_built_line))]
+    #[tactic(auto, unfolding(crate::specs::Answers::not_built_line))]
     pub fn text(&self) -> &[u8]
         ensures { result.now ≡ (answer_of self.now).text }
     {
         match self {
-            Reply::Usage => USAGE,
-            Reply::Source(line) => line.as_bytes(),
+            Reply::Usage => usage().as_bytes(),
+            Reply::Source(line) | Reply::Plan(line) => line.as_bytes(),
             Reply::NotBuilt => NOT_BUILT,
-            Reply::Report(text) => text.as_slice(),
+            Reply::Text(text) => text.as_slice(),
         }
     }
 }
 
-/// The reply to the words of a command, whose files the store has.
+/// A program with the base opcodes of its locations.
+#[derive(Debug, Drop)]
+pub struct Compiled {
+    pub program: Program,
+    pub bases: Vec<u8>,
+}
+
+/// What is said to words, where a request of threads is none.
 pub fn reply_to<S: Store>(
     alloc: Global,
     words: &[String],
     store: &mut S,
-) -> Result<Reply, StoreFault>
+) -> Result<Reply, ReplyFault>
     ensures kept { (n : List ℕ) → S.holds store.new n ≡ S.holds store.old n }
-    ensures due { (reading : Reading) (plan : List ℕ) → spec.Tells (replay_of (texts words.now)) (S.holds store.old) reading plan → IfOk result (λ r. answer_of r ≡ spec.answer (texts words.now) reading plan) }
-    ensures usage { IfOk result (λ r. (answer_of r).status ≡ Status.Usage → replay_of (texts words.now) ≡ None) }
-    ensures cause { ReplyCause (replay_of (texts words.now)) (S.holds store.old) (S.faults store.old) (S.faults store.new) (S.last_failed store.old) (S.last_failed store.new) result }
+    ensures due { (reading : Reading) (plan : List ℕ) → spec.Tells (serial_request (texts words.now)) (S.holds store.old) reading plan → IfOk result (λ r. spec.Answers (serial_request (texts words.now)) reading plan (answer_of r).status (answer_of r).text) }
+    ensures cause { ReplyCause (serial_request (texts words.now)) (S.holds store.old) (S.faults store.old) (S.faults store.new) (S.last_failed store.old) (S.last_failed store.new) result }
 {
-    match replay_words(words) {
-        Some((file, plan)) => replay(alloc, file, plan, store),
-        None => Ok(Reply::Usage),
+    match requested(words) {
+        None | Some(Request::Run { .. }) => Ok(Reply::Usage),
+        Some(Request::Replay { file, plan }) => replay(alloc, file, plan, store),
+        Some(Request::Dis { file }) => dis(alloc, file, store),
+        Some(Request::Gen { number }) => generate(alloc, number),
     }
 }
 
-/// The reply to `replay FILE PLAN`. PLAN is read only where FILE has a program that is run.
+// The replay of FILE by PLAN, which is read only where FILE has a program.
 fn replay<S: Store>(
     alloc: Global,
     file: &str,
     plan: &str,
     store: &mut S,
-) -> Result<Reply, StoreFault>
+) -> Result<Reply, ReplyFault>
     ensures kept { (n : List ℕ) → S.holds store.new n ≡ S.holds store.old n }
-    ensures due { (reading : Reading) (p : List ℕ) → spec.Tells (Some (record { file = file.now; plan = plan.now })) (S.holds store.old) reading p → IfOk result (λ r. answer_of r ≡ spec.sourced reading p) }
-    ensures not_usage { IfOk result (λ r. (answer_of r).status ≡ Status.Usage → ⊥) }
-    ensures cause { ReplyCause (Some (record { file = file.now; plan = plan.now })) (S.holds store.old) (S.faults store.old) (S.faults store.new) (S.last_failed store.old) (S.last_failed store.new) result }
+    ensures due { (reading : Reading) (p : List ℕ) → spec.Tells (Some (request.Replay file.now plan.now)) (S.holds store.old) reading p → IfOk result (λ r. spec.RunsBy spec.Serially (spec.program_in reading) p (answer_of r).status (answer_of r).text) }
+    ensures cause { ReplyCause (Some (request.Replay file.now plan.now)) (S.holds store.old) (S.faults store.old) (S.faults store.new) (S.last_failed store.old) (S.last_failed store.new) result }
+{
+    match program_of(alloc, file, store)? {
+        Err(reply) => Ok(reply),
+        Ok(compiled) => {
+            let text = contents(alloc, plan, store)?;
+            replayed(alloc, &compiled.program, compiled.bases.as_slice(), text.as_slice())
+        }
+    }
+}
+
+// The listing of FILE.
+fn dis<S: Store>(alloc: Global, file: &str, store: &mut S) -> Result<Reply, ReplyFault>
+    ensures kept { (n : List ℕ) → S.holds store.new n ≡ S.holds store.old n }
+    ensures due { (reading : Reading) (p : List ℕ) → spec.Tells (Some (request.Dis file.now)) (S.holds store.old) reading p → IfOk result (λ r. spec.Lists (spec.program_in reading) (answer_of r).status (answer_of r).text) }
+    ensures cause { ReplyCause (Some (request.Dis file.now)) (S.holds store.old) (S.faults store.old) (S.faults store.new) (S.last_failed store.old) (S.last_failed store.new) result }
+{
+    match program_of(alloc, file, store)? {
+        Err(reply) => Ok(reply),
+        Ok(compiled) => Ok(Reply::Text(print_dis(alloc, &compiled.program)?)),
+    }
+}
+
+// The program of FILE, or what is said to its fault.
+fn program_of<S: Store>(
+    alloc: Global,
+    file: &str,
+    store: &mut S,
+) -> Result<Result<Compiled, Reply>, ReplyFault>
+    ensures kept { (n : List ℕ) → S.holds store.new n ≡ S.holds store.old n }
+    ensures due { (reading : Reading) → spec.TellsFile (S.holds store.old file.now) reading → IfOk result (IsProgram (spec.program_in reading)) }
+    ensures runs { IfOk result (λ r. IfOk r (λ c. (c.bases.items ≡ c.program.bases) × AllRun c.program)) }
+    ensures found { IfOk result (λ r. IfOk r (λ c. spec.HasProgram (S.holds store.old file.now))) }
+    ensures cause { ReplyCause (Some (request.Dis file.now)) (S.holds store.old) (S.faults store.old) (S.faults store.new) (S.last_failed store.old) (S.last_failed store.new) result }
 {
     let text = contents(alloc, file, store)?;
     match module(alloc, text.as_slice()) {
-        Ok(tree) => compiled(alloc, &tree, plan, store),
-        Err(fault) => Ok(Reply::Source(source_line(alloc, fault)?)),
+        Ok(tree) => compiled(alloc, &tree),
+        Err(fault) => Ok(Err(Reply::Source(source_line(alloc, fault)?))),
     }
 }
 
-/// The reply of a module to PLAN, which is read only where the module has a program.
-fn compiled<S: Store>(
-    alloc: Global,
-    tree: &Module,
-    plan: &str,
-    store: &mut S,
-) -> Result<Reply, StoreFault>
-    ensures kept { (n : List ℕ) → S.holds store.new n ≡ S.holds store.old n }
-    ensures due { (p : List ℕ) → spec.TellsPlan (spec.program_of tree.now) (S.holds store.old plan.now) p → IfOk result (λ r. answer_of r ≡ spec.compiled (compile_fault tree.now) (spec.program_of tree.now) p) }
-    ensures not_usage { IfOk result (λ r. (answer_of r).status ≡ Status.Usage → ⊥) }
-    ensures cause { ReadCause plan.now (S.faults store.old) (S.faults store.new) (S.last_failed store.old) (S.last_failed store.new) result }
-    ensures has_program { IsErrOf result StoreFault.Failed → IsSome (spec.program_of tree.now) }
+// The program of a module, or what is said to its fault.
+fn compiled(alloc: Global, tree: &Module) -> Result<Result<Compiled, Reply>, ReplyFault>
+    ensures due { IfOk result (IsProgram (spec.program_of tree.now)) }
+    ensures runs { IfOk result (λ r. IfOk r (λ c. (c.bases.items ≡ c.program.bases) × AllRun c.program)) }
+    ensures fault { IfErr result (λ f. f ≡ ReplyFault.Memory) }
 {
     match compile(alloc, tree) {
-        Ok((program, bases)) => run(alloc, &program, bases.as_slice(), plan, store),
-        Err(CompileFault::NotBuilt(_)) => Ok(Reply::NotBuilt),
-        Err(CompileFault::Memory) => Err(StoreFault::Memory),
-        Err(fault) => Ok(Reply::Source(uncompiled_line(alloc, fault)?)),
+        Ok((program, bases)) => Ok(Ok(Compiled { program, bases })),
+        Err(CompileFault::NotBuilt(_)) => Ok(Err(Reply::NotBuilt)),
+        Err(CompileFault::Memory) => Err(ReplyFault::Memory),
+        Err(fault) => Ok(Err(Reply::Source(uncompiled_line(alloc, fault)?))),
     }
 }
 
-/// The reply of a program to PLAN.
-fn run<S: Store>(
-    alloc: Global,
-    program: &Program,
-    bases: &[u8],
-    plan: &str,
-    store: &mut S,
-) -> Result<Reply, StoreFault>
-    requires bases { bases.now ≡ program.now.bases }
-    requires runs { AllRun program.now }
-    ensures kept { (n : List ℕ) → S.holds store.new n ≡ S.holds store.old n }
-    ensures due { (p : List ℕ) → S.holds store.old plan.now ≡ Some p → IfOk result (λ r. answer_of r ≡ spec.planned program.now (plan_of program.now p)) }
-    ensures not_usage { IfOk result (λ r. (answer_of r).status ≡ Status.Usage → ⊥) }
-    ensures cause { ReadCause plan.now (S.faults store.old) (S.faults store.new) (S.last_failed store.old) (S.last_failed store.new) result }
-{
-    let text = contents(alloc, plan, store)?;
-    Ok(planned(alloc, program, bases, text.as_slice())?)
-}
-
-/// What a name stands for.
-fn contents<S: Store>(alloc: Global, name: &str, store: &mut S) -> Result<Vec<u8>, StoreFault>
+// What a name stands for.
+fn contents<S: Store>(alloc: Global, name: &str, store: &mut S) -> Result<Vec<u8>, ReplyFault>
     ensures kept { (n : List ℕ) → S.holds store.new n ≡ S.holds store.old n }
     ensures bytes { IfOk result (λ v. ReadsAll (S.holds store.old name.now) [] v.items) }
-    ensures cause { ReadCause name.now (S.faults store.old) (S.faults store.new) (S.last_failed store.old) (S.last_failed store.new) result }
+    ensures cause { ReplyCause (Some (request.Dis name.now)) (S.holds store.old) (S.faults store.old) (S.faults store.new) (S.last_failed store.old) (S.last_failed store.new) result }
 {
     let mut bytes = Vec::new(alloc);
     store.read(alloc, name, &mut bytes)?;
     Ok(bytes)
 }
 
-/// The reply of a program to the text of a plan.
-fn planned(alloc: Global, program: &Program, bases: &[u8], text: &[u8]) -> Result<Reply, AllocError>
+// The run of a program by the text of a plan.
+fn replayed(
+    alloc: Global,
+    program: &Program,
+    bases: &[u8],
+    text: &[u8],
+) -> Result<Reply, ReplyFault>
     requires bases { bases.now ≡ program.now.bases }
     requires runs { AllRun program.now }
-    ensures due { IfOk result (λ r. answer_of r ≡ spec.planned program.now (plan_of program.now text.now)) }
-    ensures not_usage { IfOk result (λ r. (answer_of r).status ≡ Status.Usage → ⊥) }
+    ensures due { IfOk result (λ r. spec.ByPlan spec.Serially program.now (plan_of program.now text.now) (answer_of r).status (answer_of r).text) }
+    ensures fault { IfErr result (λ f. f ≡ ReplyFault.Memory) }
 {
-    match read_plan(alloc, program, text) {
+    match read_plan(alloc, text, program) {
         Ok(plan) => {
-            let report = run_serial(alloc, program, bases, &plan)?;
-            Ok(Reply::Report(print_report(alloc, program, &plan, &report)?))
+            let report = serial(alloc, program, bases, &plan)?;
+            Ok(Reply::Text(print_report(alloc, program, &plan, &report)?))
         }
-        Err(PlanFault::NotBuilt) => Ok(Reply::NotBuilt),
-        Err(PlanFault::Memory) => Err(AllocError),
+        Err(PlanFault::Faulty(line, kind)) => Ok(Reply::Plan(plan_line(alloc, line, kind)?)),
+        Err(PlanFault::Memory) => Err(ReplyFault::Memory),
     }
 }

@@ -3,6 +3,7 @@ ghost use Rattle.mon_main.specs.Sources.{fault_line, of_lexer, of_parser, Module
 ghost use Rattle.mon_main.specs.Sources as spec;
 
 use mon_compile::CompileFault;
+use mon_forms::PlanKind;
 use mon_lexer::{LexFault, items};
 use mon_parser::{SyntaxFault, parse};
 use mon_trees::tree::Module;
@@ -87,5 +88,26 @@ fn misspelled_line(alloc: Global, fault: LexFault) -> Result<String, AllocError>
         LexFault::BadText(line) => format!(in alloc; "source BadText {line}\n"),
         LexFault::TooLong => String::from_str(alloc, "source TooLong\n"),
         LexFault::Memory => Err(AllocError),
+    }
+}
+
+/// The line that names a plan's first faulty line.
+pub fn plan_line(alloc: Global, line: u32, kind: PlanKind) -> Result<String, AllocError>
+    ensures { IfOk result (λ text. string_bytes text ≡ spec.plan_line line kind) }
+{
+    let kind = kind_word(kind);
+    format!(in alloc; "plan {line} {kind}\n")
+}
+
+/// What a report of faults calls this kind.
+fn kind_word(kind: PlanKind) -> &'static str
+    ensures { result.now ≡ spec.kind_word kind }
+{
+    match kind {
+        PlanKind::Word => "Word",
+        PlanKind::Order => "Order",
+        PlanKind::TooMany => "TooMany",
+        PlanKind::Number => "Number",
+        PlanKind::Name => "Name",
     }
 }

@@ -10,6 +10,8 @@ pub enum Status {
     Usage = 2,
     /// FILE has a fault of its own: of its text, of its syntax, or of its module.
     Source = 3,
+    /// PLAN has a faulty line.
+    Plan = 4,
     /// The store refused to read a file.
     ReadFault = 5,
     /// The sink refused to write.
@@ -29,6 +31,7 @@ impl Status {
             Status::Done => 0,
             Status::Usage => 2,
             Status::Source => 3,
+            Status::Plan => 4,
             Status::ReadFault => 5,
             Status::WriteFault => 6,
             Status::Memory => 7,
