@@ -1,4 +1,4 @@
-use Rattle.std.proofs.Common.{◌≡◌, ◌∙◌, ◌+◌, length, slice_get, slice_set, ap, sym, arith}
+use Rattle.std.proofs.Common.{◌∙◌, ◌+◌, length, slice_get, slice_set, ap, sym, arith}
 use Rattle.mon_run.specs.Serial.{World}
 use Rattle.mon_run.specs.Replaying.{calls_left, progress_all, world_of}
 use Rattle.mon_run.proofs.Moving.{next_some, one_left}

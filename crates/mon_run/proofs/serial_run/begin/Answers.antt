@@ -1,4 +1,4 @@
-use Rattle.std.proofs.Common.{rules, ◌≡◌, ◌<◌, ◌∙◌, ℕ, List, length, get_or, map, ap, sym, subst, arith}
+use Rattle.std.proofs.Common.{◌≡◌, ◌<◌, ◌∙◌, ℕ, List, length, get_or, map, ap, sym, subst, arith}
 use Rattle.mon_words.specs.History.{base_in}
 use Rattle.mon_words.specs.Standing.{board_of}
 use Rattle.mon_words.specs.Words.{first_words}
