@@ -92,18 +92,18 @@ module _ (p : Parts) where
   out_named v [] e f low w = (low, tt)
   out_named v (call ∷ calls) e f low w = (low, (slice_get_within p.codes call.frame.code w.1.code w.1.is_of.found, tt))
 
-  from_named : (call : Call) (below : List Call) (gs : List Generator) (its : List (List Value)) (o : Origin) (e : Exc) (h : Option Handler) → call.frame.code < length p.codes → Waiting p below
-      → AllByRecursion (NamesCode p) (unwinds_from p (record { calls = call ∷ below; generators = gs; iterators = its }) o e call.frame h).events
-  from_named call below gs its o e (Some h) low w = (low, tt)
-  from_named call below gs its Plain e None low w = out_named (record { calls = below; generators = gs; iterators = its }) below e call.frame low w
-  from_named call below gs its (Generated number by) e None low w = tt
+  from_named : (f : Frame) (o : Origin) (below : List Call) (gs : List Generator) (its : List (List Value)) (e : Exc) (h : Option Handler) → f.code < length p.codes → Waiting p below
+      → AllByRecursion (NamesCode p) (unwinds_from p (record { calls = record { frame = f; origin = o } ∷ below; generators = gs; iterators = its }) o e f h).events
+  from_named f o below gs its e (Some h) low w = (low, tt)
+  from_named f Plain below gs its e None low w = out_named (record { calls = below; generators = gs; iterators = its }) below e f low w
+  from_named f (Generated number by) below gs its e None low w = tt
 
   named_in : (calls : List Call) (gs : List Generator) (its : List (List Value)) (mode : Mode) → IsIn p (record { calls = calls; generators = gs; iterators = its }) mode
       → AllByRecursion (NamesCode p) (in_mode p (record { calls = calls; generators = gs; iterators = its }) mode).events
   named_in calls gs its Mode.Run is = topped (record { calls = calls; generators = gs; iterators = its }) calls
   named_in [] gs its (Mode.Unwind e) is = absurd is
   named_in (call ∷ calls) gs its (Mode.Unwind e) is =
-      from_named call calls gs its call.origin e (handler_due p call.frame.code call.frame.index) (slice_get_within p.codes call.frame.code is.1.code is.1.is_of.found) is.2
+      from_named call.frame call.origin calls gs its e (handler_due p call.frame.code call.frame.index) (slice_get_within p.codes call.frame.code is.1.code is.1.is_of.found) is.2
   named_in calls gs its (Mode.Ended outcome) is = tt
   named_in calls gs its Mode.Stuck is = tt
 

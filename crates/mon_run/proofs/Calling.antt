@@ -1,5 +1,5 @@
 -- A control call on the halted board, and some steps of a thread by its handle.
-use Rattle.std.proofs.Common.{◌≡◌, ℕ, zero, suc, ◌+◌, ◌<◌, ◌≤◌, ◌⊎◌, inl, inr, Bool, true, false, ltb, le-ltb, List, [], ◌∷◌, ◌++◌, length, get_or, set, cond, Option, Some, None, sym, refl, ap, ◌∙◌, subst, arith}
+use Rattle.std.proofs.Common.{◌≡◌, ℕ, zero, suc, ◌<◌, ◌⊎◌, inl, inr, Bool, true, false, ltb, le-ltb, List, [], ◌∷◌, ◌++◌, length, get_or, set, cond, Some, None, sym, refl, ap, ◌∙◌, subst, arith}
 use mathlib.Core.List.{append-nil}
 use Rattle.mon_code.specs.Programs.{Parts}
 use Rattle.mon_code.specs.Sites.{sites_of}

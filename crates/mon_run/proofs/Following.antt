@@ -17,7 +17,7 @@ use Rattle.mon_forms.specs.declared.plan.Workload.{Workload}
 use Rattle.mon_forms.specs.declared.plan.Start.{Start}
 use Rattle.mon_run.specs.Reports.{begins}
 use Rattle.mon_machine.specs.Advances.{Progress, nothing_done}
-use Rattle.mon_run.specs.Turns.{Asked, AllZero, asked, of_script, of_none, by_script, first_calls, Follows}
+use Rattle.mon_run.specs.Turns.{Asked, AllZero, asked, of_script, of_none, first_calls}
 use Rattle.mon_run.specs.Laws.{SerialFollows}
 use Rattle.mon_run.specs.Serial.{World, line_at, steps_of, asks, asks_first, asks_next, next_call, steps_by, steps_one, may_step, turn, moves_one, moves_all, rest_of_scripts, rest_of_threads, first_world, last_world}
 use Rattle.mon_run.proofs.Turns.{asked_append, script_append, none_append, first_long}

@@ -1,5 +1,5 @@
 -- What is kept while a plan is run on one thread is kept by a control call and by steps, which do to the serial run what its definition says.
-use Rattle.std.proofs.Common.{◌≡◌, ℕ, zero, suc, ◌+◌, ◌-◌, ◌<◌, ◌≤◌, ◌⊎◌, inl, inr, Bool, true, false, ◌&&◌, ltb, List, [], ◌∷◌, ◌++◌, length, map, get_or, set, cond, eqb, Option, Some, None, slice_get, sym, refl, ap, ◌∙◌, subst, arith, eq-eqb, ne_eqb}
+use Rattle.std.proofs.Common.{◌≡◌, ℕ, zero, suc, ◌+◌, ◌-◌, ◌<◌, ◌≤◌, ◌⊎◌, inl, inr, false, ◌&&◌, ltb, List, [], ◌∷◌, ◌++◌, length, map, get_or, set, cond, Option, Some, None, slice_get, sym, refl, ap, ◌∙◌, subst, arith, eq-eqb, ne_eqb}
 use Rattle.std.proofs.lemmas.List.{length-set, map-set}
 use mathlib.Core.List.{append-nil}
 use mathlib.Core.Logic.{dite}
@@ -31,7 +31,7 @@ use Rattle.mon_history.proofs.Growing.{stands_on, entries-put, as_many}
 use Rattle.mon_forms.specs.declared.plan.Start.{Start}
 use Rattle.mon_forms.specs.declared.plan.Workload.{Workload}
 use Rattle.mon_run.specs.Reports.{begins}
-use Rattle.mon_run.specs.Serial.{World, change_by, line_at, steps_of, asks, may_step, turn}
+use Rattle.mon_run.specs.Serial.{change_by, line_at, steps_of, asks, may_step, turn}
 use Rattle.mon_run.specs.Replaying.{Keeps, Waiting, ProperPlan, Called, Took, world_of, stops_at, put_at}
 use Rattle.mon_run.proofs.Reading.{offs-append, bare_behind}
 use Rattle.mon_run.proofs.Spans.{bare, later_is, made}

@@ -1,16 +1,15 @@
 -- The run on one thread begins as its definition says, and what is kept at its end is a legal report.
-use Rattle.std.proofs.Common.{◌≡◌, ℕ, zero, suc, ◌+◌, ◌<◌, ◌≤◌, false, List, [], ◌∷◌, length, map, replicate, get_or, Option, Some, None, slice_get, sym, refl, ap, ◌∙◌, subst, arith}
+use Rattle.std.proofs.Common.{◌≡◌, ℕ, zero, suc, List, [], ◌∷◌, length, map, replicate, Some, slice_get, sym, refl, ap, ◌∙◌, subst, arith}
 use Rattle.std.proofs.lemmas.List.{length-map, length-replicate}
 use Rattle.mon_code.specs.Programs.{Parts}
 use Rattle.mon_code.specs.Sites.{sites_of}
-use Rattle.mon_words.specs.History.{base_in, offs}
+use Rattle.mon_words.specs.History.{base_in}
 use Rattle.mon_words.specs.declared.history.Board.{Board}
 use Rattle.mon_words.specs.declared.history.Mark.{Mark}
 use Rattle.mon_words.specs.declared.history.Mark.TheVariants.{Off, Put}
 use Rattle.mon_board.specs.Plain.{first_plain}
 use Rattle.mon_board.specs.declared.plain_view.PlainView.{PlainView}
 use Rattle.mon_recorders.specs.declared.report.ThreadReport.{ThreadReport}
-use Rattle.mon_machine.specs.State.{State}
 use Rattle.mon_machine.specs.Advances.{Progress, nothing_done, events_from}
 use Rattle.mon_interp.specs.Threads.{reported}
 use Rattle.mon_history.specs.Journal.{IsLawful, stopping, counts_of}
@@ -26,7 +25,7 @@ use Rattle.mon_forms.specs.declared.plan.Start.{Start}
 use Rattle.mon_forms.specs.declared.plan.Workload.{Workload}
 use Rattle.mon_forms.specs.declared.report.Report.{Report}
 use Rattle.mon_run.specs.Turns.{Follows}
-use Rattle.mon_run.specs.Reports.{begins, RunsPlainly, ReadsLegally, LegalBy, IsLegal}
+use Rattle.mon_run.specs.Reports.{begins, RunsPlainly, ReadsLegally, IsLegal}
 use Rattle.mon_run.specs.Serial.{World, steps_of, asks_first, moves_all, rest_of_scripts, rest_of_threads, first_world, last_world, IsSerial}
 use Rattle.mon_run.specs.Replaying.{Waiting, Keeps, Holds, IsDone, ProperPlan, world_of}
 use Rattle.mon_run.proofs.Waiting.{begun, runs_plainly}

@@ -1,5 +1,5 @@
 -- The moves of a plan's run on one thread.
-use Rattle.std.proofs.Common.{◌≡◌, ℕ, zero, suc, ◌+◌, ◌-◌, ◌<◌, ◌≤◌, ◌⊎◌, inl, inr, min, Bool, true, false, ◌&&◌, ltb, List, [], ◌∷◌, ◌++◌, length, map, replicate, get_or, set, Option, Some, None, slice_get, sym, refl, ap, ◌∙◌, subst, arith, le-ltb, length-append}
+use Rattle.std.proofs.Common.{◌≡◌, ℕ, zero, suc, ◌+◌, ◌-◌, ◌<◌, ◌≤◌, ◌⊎◌, inl, inr, min, Bool, true, false, ◌&&◌, ltb, List, [], ◌∷◌, length, replicate, get_or, set, Some, slice_get, sym, refl, ap, ◌∙◌, subst, arith, le-ltb, length-append}
 use Rattle.std.specs.List.{All}
 use Rattle.std.proofs.lemmas.List.{length-map, map-set}
 use Rattle.std.proofs.lemmas.List.Elements.{All-get_or}
@@ -18,11 +18,10 @@ use Rattle.mon_history.proofs.Replays.{item_at}
 use Rattle.mon_control.specs.View.{Shown, NamesCode}
 use Rattle.mon_forms.specs.Fits.{FitsCall, calls_in}
 use Rattle.mon_forms.specs.declared.limits.TheConstants.{MAX_CALLS}
-use Rattle.mon_forms.specs.declared.plan.Start.{Start}
 use Rattle.mon_forms.specs.declared.plan.Workload.{Workload}
-use Rattle.mon_run.specs.Serial.{World, asks, asks_next, next_call, line_at, steps_of, may_step, turn}
+use Rattle.mon_run.specs.Serial.{World, asks, asks_next, next_call, line_at, may_step, turn}
 use Rattle.mon_run.specs.Replaying.{Keeps, Called, Took, Holds, IsDone, ProperPlan, calls_left, progress_all, world_of}
-use Rattle.mon_run.proofs.Holding.{called_keeps, called_world, took_keeps, took_world, set_other, set_mine, step_at}
+use Rattle.mon_run.proofs.Holding.{called_keeps, took_keeps, took_world, set_other, set_mine, step_at}
 use Rattle.mon_run.proofs.Turning.{turn_none, turn_sum, turn_idle, set_at}
 
 -- a code that a call of the plan names is one of the registry's

@@ -1,5 +1,5 @@
 -- Moves in a row.
-use Rattle.std.proofs.Common.{◌≡◌, ℕ, zero, suc, ◌+◌, ◌<◌, List, [], ◌∷◌, ◌++◌, take, length, map, replicate, Option, Some, slice_get, sym, refl, ap, ◌∙◌, arith, append_assoc}
+use Rattle.std.proofs.Common.{◌≡◌, ℕ, zero, suc, ◌+◌, ◌<◌, List, [], ◌∷◌, ◌++◌, take, length, map, replicate, Some, slice_get, sym, refl, ap, ◌∙◌, arith, append_assoc}
 use Rattle.std.proofs.lemmas.List.{map-append}
 use mathlib.Core.List.{append-nil}
 use Rattle.mon_code.specs.Programs.{Parts}
@@ -65,6 +65,3 @@ next_thread p plan t n w a b is low e f =
 -- the threads as they begin
 pub next_begun : {X Y Z : Type 0} (f : X → Z) (h : Y → Z) (vs : List X) (xs : List Y) (i n : ℕ) (v : X) (x : Y) → n ≡ suc i → slice_get xs i ≡ Some x → f v ≡ h x → map f vs ≡ map h (take i xs) → map f (vs ++ v ∷ []) ≡ map h (take n xs)
 next_begun f h vs xs i n v x is at e m = map-append f vs (v ∷ []) ∙ ((λ j. m j ++ e j ∷ []) ∙ (sym (map-append h (take i xs) (x ∷ [])) ∙ (ap (map h) (sym (take_next xs i x at)) ∙ ap (λ k. map h (take k xs)) (sym is))))
-
-pub next_zero : (xs : List ℕ) (i n : ℕ) → n ≡ suc i → xs ≡ replicate i 0 → xs ++ 0 ∷ [] ≡ replicate n 0
-next_zero xs i n is e = ap (λ z. z ++ 0 ∷ []) e ∙ (sym (replicate_more i 0) ∙ ap (λ k. replicate k 0) (sym is))

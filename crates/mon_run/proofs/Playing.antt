@@ -1,10 +1,10 @@
 -- Steps of a thread that is alone are turns of the serial run.
-use Rattle.std.proofs.Common.{◌≡◌, ℕ, zero, suc, ◌+◌, ◌<◌, ◌≤◌, Bool, true, false, List, [], ◌∷◌, ◌++◌, take, length, get_or, set, Some, slice_get, sym, refl, ap, ◌∙◌, arith, append_assoc}
+use Rattle.std.proofs.Common.{◌≡◌, ℕ, zero, suc, ◌+◌, ◌<◌, ◌≤◌, true, List, [], ◌∷◌, ◌++◌, take, length, get_or, set, Some, slice_get, sym, refl, ap, ◌∙◌, arith, append_assoc}
 use mathlib.Core.List.{append-nil}
 use Rattle.mon_events.specs.Sets.{slot_of, tool_of}
 use Rattle.mon_code.specs.Programs.{Parts}
 use Rattle.mon_code.specs.Sites.{sites_of}
-use Rattle.mon_words.specs.History.{after, puts}
+use Rattle.mon_words.specs.History.{puts}
 use Rattle.mon_words.specs.declared.history.Board.{Board}
 use Rattle.mon_words.specs.declared.history.Mark.{Mark}
 use Rattle.mon_words.specs.declared.history.Mark.TheVariants.{Off, Put}
@@ -15,7 +15,7 @@ use Rattle.mon_recorders.specs.declared.record.Disabled.{Disabled}
 use Rattle.mon_recorders.specs.Happenings.{Filter, answers, delivered, records_in, disables_in}
 use Rattle.mon_recorders.specs.Proper.{AreProper}
 use Rattle.mon_recorders.specs.Readings.{in_turn, Span, read_at}
-use Rattle.mon_recorders.specs.Boards.{reader, let_through, mark_of}
+use Rattle.mon_recorders.specs.Boards.{reader, mark_of}
 use Rattle.mon_recorders.proofs.Spans.{between_get}
 use Rattle.mon_machine.specs.State.{State, goes}
 use Rattle.mon_machine.specs.Step.{step}
@@ -32,9 +32,9 @@ use Rattle.mon_history.specs.declared.journal.Entry.{Entry}
 use Rattle.mon_history.specs.declared.journal.JournalLine.{JournalLine}
 use Rattle.mon_history.proofs.Legal.{made_none, made_entries}
 use Rattle.mon_history.proofs.Listening.{delivered_same, lets_through}
-use Rattle.mon_run.specs.Serial.{World, may_step, stepped, steps_by, steps_one, turn}
+use Rattle.mon_run.specs.Serial.{World, stepped, steps_one, turn}
 use Rattle.mon_run.proofs.Spans.{made, read_is}
-use Rattle.mon_run.proofs.Turning.{turn_none, turn_more, heard_in, steps_one_at, may, set_at, set_again, set_same}
+use Rattle.mon_run.proofs.Turning.{turn_none, turn_more, steps_one_at, may, set_at, set_again, set_same}
 
 goes_at : (p : Parts) (s : State) (m k : ℕ) → Goes p s m → k < m → goes (after_steps p s k).mode ≡ true
 unfolding Goes after_steps

@@ -1,5 +1,5 @@
 -- A thread's reading of a word history goes on: with more of the history, and by more steps.
-use Rattle.std.proofs.Common.{◌≡◌, ℕ, zero, suc, ◌+◌, ◌-◌, ◌<◌, ◌≤◌, Bool, true, false, List, [], ◌∷◌, ◌++◌, take, length, get_or, cond, eqb, Some, None, slice_get, sym, refl, ap, ◌∙◌, subst, arith, append_assoc, length-append}
+use Rattle.std.proofs.Common.{◌≡◌, ℕ, zero, suc, ◌+◌, ◌-◌, ◌<◌, ◌≤◌, Bool, true, false, List, [], ◌∷◌, ◌++◌, take, length, get_or, cond, eqb, Some, None, slice_get, sym, refl, ap, ◌∙◌, subst, arith, length-append}
 use Rattle.std.proofs.lemmas.List.{take-append-le}
 use mathlib.Core.List.{append-nil}
 use mathlib.Core.Logic.{dite}
@@ -11,7 +11,7 @@ use Rattle.mon_words.specs.declared.history.Mark.TheVariants.{Off, Put}
 use Rattle.mon_recorders.specs.declared.happening.Happening.{Happening}
 use Rattle.mon_recorders.specs.declared.record.Record.{Record}
 use Rattle.mon_recorders.specs.declared.record.Disabled.{Disabled}
-use Rattle.mon_recorders.specs.Happenings.{Filter, delivered, answers}
+use Rattle.mon_recorders.specs.Happenings.{delivered, answers}
 use Rattle.mon_recorders.specs.Readings.{Reader, Span, Between, entries_by}
 use Rattle.mon_recorders.specs.Boards.{reader}
 use Rattle.mon_recorders.proofs.Spans.{in_turn_same, get_front, get_back, between_get, span_none, span_append}

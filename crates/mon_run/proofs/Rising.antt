@@ -1,24 +1,19 @@
 -- The steps of the records and disables of a legal report never fall, and their codes are the program's.
-use Rattle.std.proofs.Common.{◌≡◌, ℕ, zero, suc, ◌+◌, ◌<◌, ◌≤◌, Bool, true, false, List, [], ◌∷◌, ◌++◌, length, map, cond, Some, slice_get, sym, refl, ap, ◌∙◌, subst, arith}
+use Rattle.std.proofs.Common.{◌≡◌, ℕ, zero, suc, ◌+◌, ◌<◌, ◌≤◌, Bool, true, false, List, [], ◌∷◌, ◌++◌, length, map, cond, sym, subst, arith}
 use Rattle.std.specs.List.{AllByRecursion}
 use Rattle.std.proofs.lemmas.List.{map-append}
-use Rattle.mon_code.specs.Programs.{Parts}
 use Rattle.mon_code.specs.Sites.{sites_of}
 use Rattle.mon_recorders.specs.declared.happening.Happening.{Happening}
 use Rattle.mon_recorders.specs.declared.record.Record.{Record}
 use Rattle.mon_recorders.specs.declared.record.Disabled.{Disabled}
-use Rattle.mon_recorders.specs.declared.report.ThreadReport.{ThreadReport}
 use Rattle.mon_recorders.specs.Happenings.{answers, delivered, for_tools, record_of, disabled_of, records_in, disables_in}
 use Rattle.mon_recorders.specs.Readings.{Between, in_turn, read_at}
 use Rattle.mon_machine.specs.Advances.{events_from}
 use Rattle.mon_machine.specs.Laws.{NamesCode}
 use Rattle.mon_machine.proofs.Heard.{all_append}
 use Rattle.mon_history.specs.Readings.{reader}
-use Rattle.mon_forms.specs.declared.plan.Start.{Start}
-use Rattle.mon_forms.specs.declared.plan.Workload.{Workload}
-use Rattle.mon_forms.specs.declared.report.Report.{Report}
-use Rattle.mon_run.specs.Reports.{begins, IsLegal}
-use Rattle.mon_run.specs.Laws.{StepsRise, LegalStepsRise, NamesCodes, LegalNamesCodes}
+use Rattle.mon_run.specs.Reports.{begins}
+use Rattle.mon_run.specs.Laws.{LegalStepsRise, LegalNamesCodes}
 use Rattle.mon_run.proofs.Starting.{named_plan}
 
 all_as : {A : Type 0} (P Q : A → Type 0) (xs : List A) → ((x : A) → P x → Q x) → AllByRecursion P xs → AllByRecursion Q xs

@@ -1,5 +1,5 @@
 -- Turns of a thread, step by step.
-use Rattle.std.proofs.Common.{◌≡◌, ℕ, zero, suc, ◌+◌, ◌<◌, Bool, true, false, ◌&&◌, List, [], ◌∷◌, length, get_or, set, cond, Option, Some, None, Result, Ok, Err, OnOk, slice_get, sym, refl, ap, ◌∙◌, arith, lt-ltb}
+use Rattle.std.proofs.Common.{◌≡◌, ℕ, zero, suc, ◌+◌, ◌<◌, true, false, ◌&&◌, List, [], ◌∷◌, length, get_or, set, cond, Some, Result, Ok, Err, OnOk, slice_get, sym, refl, ap, ◌∙◌, arith, lt-ltb}
 use Rattle.mon_code.specs.Programs.{Parts}
 use Rattle.mon_code.specs.Sites.{sites_of}
 use Rattle.mon_recorders.specs.Happenings.{Filter}

@@ -1,5 +1,5 @@
 -- The calls of a journal, and who made them.
-use Rattle.std.proofs.Common.{◌≡◌, ℕ, ◌+◌, List, [], ◌∷◌, ◌++◌, length, sym, refl, ap, ◌∙◌, arith, append_assoc}
+use Rattle.std.proofs.Common.{◌≡◌, ℕ, List, [], ◌∷◌, ◌++◌, length, sym, refl, ap, ◌∙◌, arith, append_assoc}
 use Rattle.mon_history.specs.declared.calls.ControlCall.{ControlCall}
 use Rattle.mon_history.specs.declared.journal.JournalLine.{JournalLine}
 use Rattle.mon_run.specs.Turns.{Asked, asked, by_script, of_script, by_none, of_none, first_calls}

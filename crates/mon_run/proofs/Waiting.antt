@@ -1,5 +1,5 @@
 -- A thread's reading goes on by an advance, and by calls between two of them.
-use Rattle.std.proofs.Common.{◌≡◌, ℕ, ◌+◌, ◌≤◌, ◌⊎◌, ⊎_elim, false, List, [], ◌++◌, length, sym, refl, ap, ◌∙◌, subst, arith, length-append}
+use Rattle.std.proofs.Common.{◌≡◌, ℕ, ◌+◌, ◌≤◌, ⊎_elim, false, List, [], ◌++◌, length, sym, refl, ap, ◌∙◌, subst, arith, length-append}
 use Rattle.mon_code.specs.Programs.{Parts}
 use Rattle.mon_words.specs.History.{offs, puts, Still}
 use Rattle.mon_words.specs.declared.history.Board.{Board}

@@ -3,7 +3,6 @@ use Rattle.std.specs.Prelude.{◌≡◌, ℕ, ◌≤◌, List, [], length, slice
 use Rattle.mon_code.specs.declared.program.Code.{Code}
 use Rattle.mon_code.specs.Programs.{Parts}
 use Rattle.mon_code.specs.Sites.{sites_of}
-use Rattle.mon_recorders.specs.declared.happening.Happening.{Happening}
 use Rattle.mon_recorders.specs.declared.report.ThreadReport.{ThreadReport}
 use Rattle.mon_machine.specs.State.{State, start}
 use Rattle.mon_machine.specs.Run.{after_steps, steps_done, outcome_of, printed_by}

@@ -157,7 +157,7 @@ fn begin(
     requires runs { AllRun program.now }
     requires plan { FitsWorkload program.now plan.now }
     requires bases { bases.now ≡ program.now.bases }
-    ensures proper { ProperPlan program.now plan.now }
+    ensures proper { IfOk result (λ _. ProperPlan program.now plan.now) }
     ensures holds { IfOk result (λ r. Holds program.now plan.now r.control r.board.chair.me.0 (progress_all r.threads.items) r.made.items) }
     ensures few { IfOk result (λ r. length r.control.journal + length plan.now.before + calls_left plan.now.scripts r.made.items ≤ 256) }
     ensures journal { IfOk result (λ r. r.control.journal ≡ []) }

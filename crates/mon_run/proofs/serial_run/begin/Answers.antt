@@ -1,4 +1,4 @@
-use Rattle.std.proofs.Common.{rules, ◌≡◌, ◌<◌, ◌∙◌, ℕ, List, length, get_or, map, ap, sym, subst, arith}
+use Rattle.std.proofs.Common.{◌≡◌, ◌<◌, ◌∙◌, ℕ, List, length, get_or, map, ap, sym, subst, arith}
 use Rattle.mon_words.specs.History.{base_in}
 use Rattle.mon_words.specs.Standing.{board_of}
 use Rattle.mon_words.specs.Words.{first_words}
@@ -18,7 +18,7 @@ returns-clause-holds c =
     let words : c.in_ok-words.words.items ≡ first_words p.bases = c.in_ok-words.ensures.words ∙ ap first_words c.requires.bases in
     let given : c.as_slice.result.now ≡ first_words p.bases = c.as_slice.ensures.value ∙ words in
     let bytes : (l : ℕ) → get_or p.bases l 0 < 256 = λ l. subst (λ (b : List ℕ). get_or b l 0 < 256) c.requires.bases (omega (arith, c.type_inv.bases l)) in
-    let count : c.count ≡ length plan.threads = (search rules) in
+    let count : c.len-count.result ≡ length plan.threads = c.len-count.ensures in
     first_holds p plan _ _ _ _ (board_of (first_words p.bases))
     (c.in_ok-board.ensures.view ∙ (λ i. first_plain (count i) (board_of (given i))))
     (ap (λ (w : List ℕ). map base_in (board_of w).cells) (sym words) ∙ (c.in_ok-words.ensures.bases ∙ c.requires.bases))
