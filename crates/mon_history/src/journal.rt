@@ -36,6 +36,13 @@ impl Counts {
         self.items.len()
     }
 
+    /// The counts, by the numbers of the threads.
+    pub fn as_slice(&self) -> &[u64]
+        ensures { result.now ≡ self.now }
+    {
+        self.items.as_slice()
+    }
+
     /// Sets the count of a thread.
     pub fn set(&mut self, thread: usize, count: u64)
         requires { thread < length self.old }
@@ -96,6 +103,13 @@ impl Journal {
         ensures { option_copied result ≡ slice_get self.now.lines at }
     {
         self.lines.get(at)
+    }
+
+    /// The lines, in order.
+    pub fn as_slice(&self) -> &[JournalLine]
+        ensures { result.now ≡ self.now.lines }
+    {
+        self.lines.as_slice()
     }
 
     /// Makes room for one line.
