@@ -1,30 +1,33 @@
--- A text that is too long is of no form, so that no more of it than its first bytes counts.
-use Rattle.std.proofs.Common.{◌≡◌, ℕ, ◌<◌, ◌≤◌, ◌∙◌, List, [], length, take, refl, sym, ap, arith, subst, inl, inr, false}
+-- A text that is too long is at fault as a whole, so that no more of it than its first bytes counts.
+use Rattle.std.proofs.Common.{◌≡◌, ℕ, ◌<◌, ◌≤◌, ◌∙◌, List, [], length, take, refl, sym, ap, arith, subst, inl, inr, false, true}
 use Rattle.std.proofs.lemmas.Bool.{cases_lt}
 use Rattle.std.proofs.lemmas.Bool.Decides.{nat_tests}
 use Rattle.std.proofs.lemmas.List.{take_all, length-take-le}
-use Rattle.std.specs.Prelude.{Option, Some, None, nat_le, ◌⊎◌}
+use Rattle.std.specs.Prelude.{Option, Some, None, Result, Err, nat_lt, ◌⊎◌}
 use Rattle.mon_code.specs.Programs.{Parts}
+use Rattle.mon_forms.specs.Plans.{plan_of}
+use Rattle.mon_forms.specs.declared.plan.Plan.{Plan}
+use Rattle.mon_forms.specs.declared.plan.PlanFault.{PlanFault}
+use Rattle.mon_forms.specs.declared.plan.PlanFault.TheVariants as plan_fault
+use Rattle.mon_forms.specs.declared.plan.PlanKind.TheVariants as kind
 use Rattle.mon_lexer.specs.Top.{lexfault}
 use Rattle.mon_lexer.specs.declared.token.LexFault.{LexFault}
 use Rattle.mon_lexer.specs.declared.token.LexFault.TheVariants.{TooLong}
 use Rattle.mon_lexer.proofs.Texts.{too_long}
+use Rattle.mon_outside.specs.Outside.{ReadsAll}
 use Rattle.mon_parser.specs.Texts.{Reading, ReadAs, Misspelled, Underived, Parsed}
-use Rattle.mon_main.specs.Outside.{ReadsAll}
-use Rattle.mon_main.specs.Plans.{plan_of}
 
-pub plan_of-long : (p : Parts) (text : List ℕ) → 4096 < length text → plan_of p text ≡ None
-plan_of-long p text h = let e : nat_le (length text) 4096 ≡ false = grind (arith, nat_tests) in rw e refl
-
--- what gives nothing for a text over a limit needs no byte past it
-past_limit : {A : Type 0} (f : List ℕ → Option A) (limit : ℕ) → limit < 262145 → ((text : List ℕ) → limit < length text → f text ≡ None) → (text : List ℕ) → (262145 < length text) ⊎ (length text ≤ 262145) → f (take 262145 text) ≡ f text
-past_limit f limit h long text (inl k) =
-    let cut : length (take 262145 text) ≡ 262145 = length-take-le 262145 text (omega arith) in
-    long (take 262145 text) (omega arith) ∙ sym (long text (omega arith))
-past_limit f limit h long text (inr k) = ap f (take_all 262145 text k)
+plan_of-long : (p : Parts) (text : List ℕ) → 262144 < length text → plan_of p text ≡ Err (plan_fault.Faulty 0 kind.TooMany)
+plan_of-long p text h = let e : nat_lt 262144 (length text) ≡ true = grind (arith, nat_tests) in rw e refl
 
 pub plan_of-take : (p : Parts) (text : List ℕ) → plan_of p (take 262145 text) ≡ plan_of p text
-plan_of-take p text = past_limit (plan_of p) 4096 (omega arith) (plan_of-long p) text (cases_lt 262145 (length text))
+plan_of-take p text = by_length (cases_lt 262145 (length text))
+  where
+    by_length : (262145 < length text) ⊎ (length text ≤ 262145) → plan_of p (take 262145 text) ≡ plan_of p text
+    by_length (inl k) =
+        let cut : length (take 262145 text) ≡ 262145 = length-take-le 262145 text (omega arith) in
+        plan_of-long p (take 262145 text) (omega arith) ∙ sym (plan_of-long p text (omega arith))
+    by_length (inr k) = ap (plan_of p) (take_all 262145 text k)
 
 no_fault : (f : LexFault) (o : Option LexFault) → o ≡ Some f → o ≡ None → ⊥
 no_fault f o e n = let h : ◌≡◌ {A = Option LexFault} (Some f) None = sym e ∙ n in cc

@@ -12,12 +12,12 @@ use Rattle.mon_forms.specs.Listing.{listing}
 use Rattle.mon_forms.specs.Plans.{plan_of}
 use Rattle.mon_forms.specs.Reports.{report_text}
 use Rattle.mon_forms.specs.declared.plan.Plan.{Plan}
+use Rattle.mon_forms.specs.declared.plan.ReportLine.{ReportLine}
 use Rattle.mon_forms.specs.declared.plan.PlanFault.{PlanFault}
 use Rattle.mon_forms.specs.declared.plan.PlanFault.TheVariants as plan_fault
 use Rattle.mon_forms.specs.declared.report.Report.{Report}
 use Rattle.mon_run.specs.Reports.{IsLegal}
 use Rattle.mon_run.specs.Serial.{IsSerial}
-use Rattle.mon_gen.specs.Generated.{generated, generated_plan, summary}
 use Rattle.mon_main.specs.Commands.{Request, usage_line}
 use Rattle.mon_main.specs.Commands as request
 use Rattle.mon_main.specs.Sources.{misspelled_line, underived_line, uncompiled_line, plan_line}
@@ -85,9 +85,14 @@ pub record Prints (R : Runs) (p : Parts) (plan : Plan) (text : List ℕ) : Type 
   pub runs : R p plan report
   pub is : text ≡ report_text p plan report
 
+-- a plan that asks for no report behind the threads; others are not built yet
+abbrev pub OfPlan : Runs → Parts → Plan → List ReportLine → Status → List ℕ → Type 0
+OfPlan R p plan [] status text = (status ≡ Status.Done) × Prints R p plan text
+OfPlan R p plan (line ∷ lines) status text = Is (says Status.NotBuilt not_built_line) status text
+
 abbrev pub ByPlan : Runs → Parts → Result Plan PlanFault → Status → List ℕ → Type 0
 ByPlan R p (Err fault) status text = Is (says Status.Plan (fault_of_plan fault)) status text
-ByPlan R p (Ok plan) status text = (status ≡ Status.Done) × Prints R p plan text
+ByPlan R p (Ok plan) status text = OfPlan R p plan plan.reports status text
 
 -- a program by the text of a plan
 abbrev pub RunsBy : Runs → Result Parts Answer → List ℕ → Status → List ℕ → Type 0
@@ -98,21 +103,13 @@ abbrev pub Lists : Result Parts Answer → Status → List ℕ → Type 0
 Lists (Err refusal) status text = Is refusal status text
 Lists (Ok p) status text = Is (says Status.Done (listing p)) status text
 
--- the serial run of the generated program by the generated plan, in short
-pub record Sums (n : ℕ) (text : List ℕ) : Type 0 where
-  pub program : Parts
-  pub is_program : program_of (generated n) ≡ Ok program
-  pub report : Report
-  pub serial : Serially program (generated_plan n) report
-  pub is : text ≡ summary program report
-
 -- a request is answered so
 abbrev pub Answers : Option Request → Reading → List ℕ → Status → List ℕ → Type 0
 Answers None reading plan status text = Is (says Status.Usage usage_line) status text
 Answers (Some (request.Run file name)) reading plan status text = RunsBy Legally (program_in reading) plan status text
 Answers (Some (request.Replay file name)) reading plan status text = RunsBy Serially (program_in reading) plan status text
 Answers (Some (request.Dis file)) reading plan status text = Lists (program_in reading) status text
-Answers (Some (request.Gen number)) reading plan status text = (status ≡ Status.Done) × Sums number text
+Answers (Some (request.Gen number)) reading plan status text = Is (says Status.NotBuilt not_built_line) status text
 
 -- ---- as far as contents are told
 

@@ -1,4 +1,4 @@
-ghost use Rattle.std.specs.Prelude.{◌≡◌, ℕ, List, [], Some, IfOk, Ok, Err};
+ghost use Rattle.std.specs.Prelude.{◌≡◌, ℕ, List, [], Some, IfOk, IfErr};
 ghost use Rattle.std.specs.Option.{option_map};
 ghost use Rattle.mon_code.specs.Programs.{Parts};
 ghost use Rattle.mon_forms.specs.Plans.{plan_of};
@@ -87,7 +87,7 @@ pub fn reply_to<S: Store>(
         None | Some(Request::Run { .. }) => Ok(Reply::Usage),
         Some(Request::Replay { file, plan }) => replay(alloc, file, plan, store),
         Some(Request::Dis { file }) => dis(alloc, file, store),
-        Some(Request::Gen { number }) => generate(alloc, number),
+        Some(Request::Gen { .. }) => Ok(Reply::NotBuilt),
     }
 }
 
@@ -119,7 +119,7 @@ fn dis<S: Store>(alloc: Global, file: &str, store: &mut S) -> Result<Reply, Repl
 {
     match program_of(alloc, file, store)? {
         Err(reply) => Ok(reply),
-        Ok(compiled) => Ok(Reply::Text(print_dis(alloc, &compiled.program)?)),
+        Ok(compiled) => Ok(Reply::Text(print_dis(alloc, &compiled.program, compiled.bases.as_slice())?)),
     }
 }
 
@@ -137,13 +137,13 @@ fn program_of<S: Store>(
 {
     let text = contents(alloc, file, store)?;
     match module(alloc, text.as_slice()) {
-        Ok(tree) => compiled(alloc, &tree),
+        Ok(tree) => compile_module(alloc, &tree),
         Err(fault) => Ok(Err(Reply::Source(source_line(alloc, fault)?))),
     }
 }
 
 // The program of a module, or what is said to its fault.
-fn compiled(alloc: Global, tree: &Module) -> Result<Result<Compiled, Reply>, ReplyFault>
+fn compile_module(alloc: Global, tree: &Module) -> Result<Result<Compiled, Reply>, ReplyFault>
     ensures due { IfOk result (IsProgram (spec.program_of tree.now)) }
     ensures runs { IfOk result (λ r. IfOk r (λ c. (c.bases.items ≡ c.program.bases) × AllRun c.program)) }
     ensures fault { IfErr result (λ f. f ≡ ReplyFault.Memory) }
@@ -180,6 +180,7 @@ fn replayed(
     ensures fault { IfErr result (λ f. f ≡ ReplyFault.Memory) }
 {
     match read_plan(alloc, text, program) {
+        Ok(plan) if !plan.reports.is_empty() => Ok(Reply::NotBuilt),
         Ok(plan) => {
             let report = serial(alloc, program, bases, &plan)?;
             Ok(Reply::Text(print_report(alloc, program, &plan, &report)?))
