@@ -7,3 +7,6 @@ pub mod Keeping
 pub mod Plain
 pub mod Reading
 pub mod Words
+pub mod Written
+pub mod Listings
+pub mod Joins

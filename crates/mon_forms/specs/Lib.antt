@@ -5,3 +5,7 @@ pub mod Heads
 pub mod Plans
 pub mod Fits
 pub mod Answers
+pub mod Texts
+pub mod Opcodes
+pub mod Listing
+pub mod Reports

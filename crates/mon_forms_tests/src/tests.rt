@@ -1,6 +1,8 @@
 mod contents;
 mod faults;
 mod limits;
+mod listings;
+mod reports;
 
 use mon_code::Program;
 use mon_compile::compile;
