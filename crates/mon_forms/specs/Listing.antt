@@ -1,5 +1,5 @@
 -- The listing of a program, as bytes: for each code a line with its name, and a line for each of its locations.
-use Rattle.std.specs.Prelude.{ℕ, ◌+◌, ◌*◌, List, [], ◌∷◌, ◌++◌, Option, Some, None, slice_get, codes}
+use Rattle.std.specs.Prelude.{ℕ, ◌*◌, List, [], ◌++◌, Option, Some, None, slice_get, codes}
 use Rattle.std.specs.Fmt.{decimal}
 use Rattle.mon_code.specs.Operators.{arith_op_of, cmp_op_of}
 use Rattle.mon_code.specs.Programs.{Parts, op_at}

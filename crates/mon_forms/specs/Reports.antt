@@ -6,7 +6,6 @@ use Rattle.mon_code.specs.Programs.{Parts}
 use Rattle.mon_events.specs.Events.{name_of, all_events, events}
 use Rattle.mon_events.specs.Sets.{has}
 use Rattle.mon_events.specs.declared.event.Event.{Event}
-use Rattle.mon_events.specs.declared.set.EventSet.{EventSet}
 use Rattle.mon_history.specs.declared.calls.ControlCall.{ControlCall}
 use Rattle.mon_history.specs.declared.calls.Reply.{Reply}
 use Rattle.mon_history.specs.declared.calls.Who.{Who}

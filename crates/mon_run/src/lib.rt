@@ -7,11 +7,9 @@ mod laws;
 mod moves;
 mod serial_run;
 
-pub use alone::{call_alone, steps_alone};
 pub use fault::RunFault;
 pub use laws::{
     events_of_plans_are_proper, legal_reports_name_codes, serial_runs_follow_plans,
     steps_of_legal_reports_rise, worked_serial_run,
 };
-pub use moves::{Replay, ask, ask_next, make_move, take_turn};
 pub use serial_run::serial;

@@ -136,6 +136,30 @@ const BEHIND_THE_SCHEDULE: Row = Row {
     }],
 };
 
+/// A script asks for LINE in the midst of a line.
+const WITHIN_A_LINE: Row = Row {
+    program: LOOP,
+    plan: "steps 100\nthread f 3\nbefore\nuse_tool_id 1 t\nregister_callback 1 LINE keep\nscript\nset_events 1 LINE\nschedule\nturn 0 9\ncall 0\n",
+    calls: &[
+        (Answer::Nothing, None),
+        (Answer::WasNothing, Some(&[0])),
+        (Answer::Nothing, Some(&[9])),
+    ],
+    threads: &[ThreadDue {
+        steps: 36,
+        returned: Some(3),
+        records: &[
+            (12, 1, Event::Line, 0, 3),
+            (16, 1, Event::Line, 0, 4),
+            (21, 1, Event::Line, 0, 3),
+            (25, 1, Event::Line, 0, 4),
+            (30, 1, Event::Line, 0, 3),
+            (34, 1, Event::Line, 0, 5),
+        ],
+        disables: &[],
+    }],
+};
+
 fn compiled(alloc: Global, text: &str) -> Result<(Program, Vec<u8>), Fail>
     ensures bases { IfOk result (λ made. made.1.items ≡ made.0.bases) }
     ensures runs { IfOk result (λ made. AllRun made.0) }
@@ -160,5 +184,6 @@ fn schedules_are_followed(rt: HostRuntime) -> Result<(), Fail> {
     assert!(rt; tells(alloc, &ONE_BEHIND_ANOTHER)?);
     assert!(rt; tells(alloc, &DISABLED_ACROSS)?);
     assert!(rt; tells(alloc, &BEHIND_THE_SCHEDULE)?);
+    assert!(rt; tells(alloc, &WITHIN_A_LINE)?);
     Ok(())
 }

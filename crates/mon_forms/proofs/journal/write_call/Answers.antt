@@ -1,4 +1,4 @@
-use Rattle.std.proofs.Common.{ap, ◌∙◌, string_bytes}
+use Rattle.std.proofs.Common.{ap, ◌∙◌}
 use Rattle.mon_code.specs.Programs.{Parts}
 use Rattle.mon_forms.specs.Reports.{call_text, parts_text, kind_of}
 use Rattle.mon_forms.specs.declared.calls.CallKind.{CallKind}

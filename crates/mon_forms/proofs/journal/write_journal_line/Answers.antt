@@ -1,4 +1,3 @@
-use Rattle.std.proofs.Common.{string_bytes}
 use Rattle.mon_code.specs.Programs.{Parts}
 use Rattle.mon_forms.specs.Reports.{answer_text, made_text}
 use Rattle.mon_forms.proofs.Written.{written_behind}
