@@ -1,10 +1,12 @@
+mod listings;
 mod plans;
 mod runs;
 mod sources;
 
-use mon_main::{
-    FileStore, MemoryFile, MemorySink, MemoryStore, Sink, SinkFault, Status, StdoutSink, Store,
-    StoreFault, host_serial, write_all,
+use mon_main::{Status, host_serial};
+use mon_outside::{
+    FileStore, MemoryFile, MemorySink, MemoryStore, Sink, SinkFault, StdoutSink, Store, StoreFault,
+    write_all,
 };
 use std::alloc::{AllocError, Global};
 use std::fmt::Display;
@@ -65,7 +67,7 @@ fn plan(alloc: Global, steps: &str, thread: &str) -> Result<String, AllocError> 
 #[test]
 fn other_words_are_no_command(rt: HostRuntime) -> Result<(), Fail> {
     let alloc = rt.alloc();
-    let lists: [&[&str]; 11] = [
+    let lists: [&[&str]; 20] = [
         &[],
         &["replay"],
         &["replay", "program"],
@@ -75,8 +77,17 @@ fn other_words_are_no_command(rt: HostRuntime) -> Result<(), Fail> {
         &["replay", "-program", "plan"],
         &["replay", "program", "-"],
         &["run", "program", "plan"],
-        &["dis", "program"],
-        &["gen", "100"],
+        &["dis"],
+        &["dis", "-"],
+        &["dis", "program", "plan"],
+        &["Replay", "program", "plan"],
+        &["gen"],
+        &["gen", ""],
+        &["gen", "0"],
+        &["gen", "01"],
+        &["gen", "501"],
+        &["gen", "18446744073709551617"],
+        &["gen", "1 "],
     ];
     for list in lists {
         let words = texts(alloc, list)?;
@@ -268,10 +279,7 @@ fn a_program_that_is_not_built_is_said(rt: HostRuntime) -> Result<(), Fail> {
 #[test]
 fn a_plan_that_is_not_built_is_said(rt: HostRuntime) -> Result<(), Fail> {
     let alloc = rt.alloc();
-    assert!(rt; is_not_built(alloc, LOOP, "")?);
-    assert!(rt; is_not_built(alloc, LOOP, "steps 100\n")?);
-    assert!(rt; is_not_built(alloc, "", LOOP_PLAN)?);
-    assert!(rt; is_not_built(alloc, "def g(n): return n\n", LOOP_PLAN)?);
+    assert!(rt; is_not_built(alloc, LOOP, "steps 1\nthread f 3\nreport lines 1\n")?);
     Ok(())
 }
 

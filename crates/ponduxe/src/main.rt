@@ -2,7 +2,8 @@
 //! the number of its status.
 #![tactic(auto)]
 
-use mon_main::{FileStore, Status, StdoutSink, host_serial};
+use mon_main::{Status, host_serial};
+use mon_outside::{FileStore, StdoutSink};
 use std::alloc::AllocError;
 use std::env;
 use std::io::ErrorKind;

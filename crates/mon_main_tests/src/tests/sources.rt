@@ -1,5 +1,6 @@
 use super::{JOURNAL, LOOP_PLAN, is_not_built, replays_to, sink, texts};
-use mon_main::{MemoryFile, MemoryStore, Status, host_serial};
+use mon_main::{Status, host_serial};
+use mon_outside::{MemoryFile, MemoryStore};
 use std::alloc::{AllocError, Global};
 use std::test::Fail;
 
