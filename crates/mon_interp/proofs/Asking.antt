@@ -1,15 +1,15 @@
 -- Events that are listed where some tool asks for them.
-use Rattle.std.proofs.Common.{inl, inr, ◌≡◌, ℕ, ◌<◌, Bool, true, false, IsTrue, List, [], ◌∷◌, ◌++◌, refl, sym, ap, ◌∙◌, subst, append-nil, append_assoc}
+use Rattle.std.proofs.Common.{inl, inr, ◌≡◌, ℕ, ◌<◌, Bool, true, false, List, [], ◌∷◌, ◌++◌, refl, sym, ap, ◌∙◌, subst, append-nil, append_assoc}
 use Rattle.std.specs.Prelude.{◌==◌, Option, Some, None, if◌then◌else◌}
 use Rattle.mon_events.specs.Events.{rank}
 use Rattle.mon_events.specs.declared.event.Event.{Event}
 use Rattle.mon_events.specs.declared.event.Slot.{Slot}
 use Rattle.mon_values.specs.declared.value.Exc.{Exc}
 use Rattle.mon_code.specs.Programs.{Parts}
-use Rattle.mon_words.specs.Words.{cell_of, is_wanted}
+use Rattle.mon_words.specs.Words.{is_wanted}
 use Rattle.mon_frames.specs.declared.frame.Frame.{Frame}
 use Rattle.mon_recorders.specs.declared.happening.Happening.{Happening}
-use Rattle.mon_recorders.specs.declared.happening.Kind.TheVariants.{Local, Ancillary}
+use Rattle.mon_recorders.specs.declared.happening.Kind.TheVariants.{Local}
 use Rattle.mon_hear.specs.Words.{IsAskedPart}
 use Rattle.mon_hear.proofs.Parting.{slot_unasked, part_none, part_append}
 use Rattle.mon_machine.specs.Events.{Shown, happens, in_main, line_events, slot_events, ancillary_events, of_exception}

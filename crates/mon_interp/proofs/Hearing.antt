@@ -1,5 +1,5 @@
 -- A step that was done and heard is one of an advance.
-use Rattle.std.proofs.Common.{◌≡◌, ℕ, ◌+◌, ◌<◌, Bool, true, false, ◌||◌, cond, IsTrue, List, [], ◌∷◌, ◌++◌, length, take, Option, Some, None, refl, sym, ap, ◌∙◌, subst, arith, append-nil, append_assoc}
+use Rattle.std.proofs.Common.{◌≡◌, ℕ, ◌+◌, Bool, true, false, ◌||◌, cond, IsTrue, List, [], ◌∷◌, ◌++◌, length, take, Option, Some, None, refl, sym, ap, ◌∙◌, subst, arith, append-nil, append_assoc}
 use Rattle.std.specs.Prelude.{◌==◌, if◌then◌else◌}
 use Rattle.std.specs.List.{AllByRecursion}
 use Rattle.mon_events.specs.declared.event.Event.{Event}
@@ -8,7 +8,7 @@ use Rattle.mon_events.specs.declared.op.Op.{Op}
 use Rattle.mon_code.specs.declared.program.Code.{Code}
 use Rattle.mon_code.specs.declared.program.Location.{Location}
 use Rattle.mon_code.specs.Programs.{Parts}
-use Rattle.mon_words.specs.Words.{cell_of, is_enabled, Quiet}
+use Rattle.mon_words.specs.Words.{cell_of, is_enabled}
 use Rattle.mon_words.specs.History.{after, cell_at, offs}
 use Rattle.mon_words.proofs.Growing.{grows_refl}
 use Rattle.std.proofs.Math.Seq.{take-length}

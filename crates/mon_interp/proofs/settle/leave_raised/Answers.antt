@@ -1,4 +1,4 @@
-use Rattle.std.proofs.Common.{sym, ap, ◌∙◌}
+use Rattle.std.proofs.Common.{ap, ◌∙◌}
 use Rattle.mon_frames.specs.declared.call.Origin.{Origin}
 use Rattle.std.specs.Prelude.{Some}
 use Rattle.mon_interp.proofs.Results.{on_ok-then}

@@ -1,4 +1,3 @@
-use Rattle.std.proofs.Common.{List}
 use Rattle.std.proofs.Common.{subst}
 use Rattle.std.specs.Prelude.{Option, option_map}
 use Rattle.mon_events.specs.declared.event.Event.{Event}

@@ -12,7 +12,7 @@ use Rattle.mon_machine.specs.declared.mode.Mode.{Mode}
 use Rattle.mon_machine.specs.declared.mode.Ending.{Ending}
 use Rattle.mon_machine.specs.State.{State, Move, moved}
 use Rattle.mon_machine.specs.Events.{line_events, raise_events, instruction_events}
-use Rattle.mon_interp.specs.Places.{standing, IsAt}
+use Rattle.mon_interp.specs.Places.{standing}
 use Rattle.mon_machine.specs.Advances.{Progress}
 use Rattle.mon_interp.specs.Machines.{progress_of}
 use Rattle.mon_interp.specs.Moving.{frames_move, is_raising}
