@@ -23,15 +23,15 @@ left_true : (x y : Bool) → IsTrue (x && y) → IsTrue x
 left_true true y h = refl
 left_true false y h = h
 
-or_left : (x y : Bool) → IsTrue x → IsTrue (x || y)
+pub or_left : (x y : Bool) → IsTrue x → IsTrue (x || y)
 or_left true y h = refl
 or_left false y h = absurd (cc (h))
 
-or_right : (x y : Bool) → IsTrue y → IsTrue (x || y)
+pub or_right : (x y : Bool) → IsTrue y → IsTrue (x || y)
 or_right true y h = refl
 or_right false y h = h
 
-enabled_same : (b : Board) (word global : ℕ) (k : Kind) (t : ℕ) (e : Event) → IsReadBy b word k → (IsTrue (is_global_kind k) → global ≡ b.global)
+pub enabled_same : (b : Board) (word global : ℕ) (k : Kind) (t : ℕ) (e : Event) → IsReadBy b word k → (IsTrue (is_global_kind k) → global ≡ b.global)
     → is_enabled_by (cell_at b) b.global k t e ≡ is_enabled_by (λ l. cell_of word) global k t e
 enabled_same b word global (Kind.Local l s) t e r g = ap (λ c. is_enabled c s t) (sym r)
 enabled_same b word global (Kind.Ancillary l) t e r g = ap (λ c. is_enabled c Slot.Main t) (sym r)

@@ -1,5 +1,5 @@
 -- The words by which a step is heard, and which of them are loaded.
-use Rattle.std.specs.Prelude.{◌≡◌, ℕ, ◌<◌, Bool, false, ◌||◌, cond, List, [], ◌∷◌, ◌++◌, slice_index}
+use Rattle.std.specs.Prelude.{◌≡◌, ℕ, ◌<◌, ◌*◌, ◌/◌, ◌%◌, ◌^◌, nat_lt, Option, Some, None, Bool, false, ◌||◌, cond, List, [], ◌∷◌, ◌++◌, slice_index, ◌⊎◌}
 use Rattle.mon_words.specs.Words.{cell_of}
 use Rattle.mon_words.specs.declared.tally.Load.{Load}
 use Rattle.mon_recorders.specs.declared.happening.Happening.{Happening}
@@ -38,3 +38,17 @@ Agree f g (e ∷ es) = ((t : ℕ) → t < 6 → (f.hears t e ≡ g.hears t e) ×
 abbrev pub globals : List Happening → List Happening
 globals [] = []
 globals (e ∷ es) = cond (is_global_kind e.kind) (e ∷ globals es) (globals es)
+
+-- the global word asks for the event of this number for some tool
+abbrev pub wants_some : ℕ → Option ℕ → Bool
+wants_some global None = false
+wants_some global (Some rank) = nat_lt 0 (global / 2 ^ (6 * rank) % 64)
+
+-- these words enable an event for no tool
+abbrev pub IsUnasked : ℕ → ℕ → Happening → Type 0
+IsUnasked word global e = (t : ℕ) → t < 6 → is_enabled_by (λ l. cell_of word) global e.kind t e.event ≡ false
+
+-- the events xs are those of es but for some that are left out, which these words enable for no tool
+abbrev pub IsAskedPart : ℕ → ℕ → List Happening → List Happening → Type 0
+IsAskedPart word global xs [] = xs ≡ []
+IsAskedPart word global xs (e ∷ es) = (IsUnasked word global e × IsAskedPart word global xs es) ⊎ ((rest : List Happening) × (xs ≡ e ∷ rest) × IsAskedPart word global rest es)

@@ -1,8 +1,8 @@
 //! The words by which a step is heard, each loaded at most once.
 
-ghost use Rattle.std.specs.Prelude.{◌≡◌, ◌<◌, ◌+◌, ◌++◌, ◌∷◌, ◌&&◌, ◌==◌, ◌*◌, ◌%◌, ◌^◌, bit_and, bit_or, cond, not, false, ℕ, List, IsTrue, [], length, slice_index};
-ghost use Rattle.mon_events.specs.Events.{rank};
-ghost use Rattle.mon_words.specs.Words.{cell_of, is_bit, is_enabled, is_wanted, is_called, is_once};
+ghost use Rattle.std.specs.Prelude.{◌≡◌, ◌<◌, ◌+◌, ◌++◌, ◌∷◌, ◌&&◌, ◌==◌, ◌*◌, ◌%◌, ◌^◌, bit_and, bit_or, cond, not, nat_lt, false, ℕ, List, IsTrue, [], length, slice_index};
+ghost use Rattle.mon_events.specs.Events.{rank, slot_number};
+ghost use Rattle.mon_words.specs.Words.{cell_of, enabled_in, is_bit, is_enabled, is_wanted, is_called, is_once};
 ghost use Rattle.mon_words.specs.History.{after};
 ghost use Rattle.mon_words.specs.Told.{Told as ToldOf, Grows};
 ghost use Rattle.mon_words.specs.declared.tally.Load.{Load};
@@ -249,4 +249,24 @@ pub fn asks(word: u64, global: u64) -> bool
     ensures nothing { result ≡ false → (b : BoardOf) (events : List HappeningOf) → AreReadBy b word events → (IsTrue (spec.any_global events) → global ≡ b.global) → Unheard b word global events }
 {
     !is_quiet(word) || global != 0
+}
+
+/// Whether a word enables the event of a slot for some tool.
+pub fn asks_slot(word: u64, slot: Slot) -> bool
+    ensures bits { result ≡ nat_lt 0 (enabled_in (cell_of word) (slot_number slot)) }
+    ensures nothing { result ≡ false → (tool : ℕ) → tool < 6 → is_enabled (cell_of word) slot tool ≡ false }
+{
+    let enabled = ((word >> 16) % 16_777_216) & (word >> 40);
+    (enabled >> (6 * slot.number())) % 64 > 0
+}
+
+/// Whether the global word asks for an event for some tool.
+pub fn asks_global(global: u64, event: Event) -> bool
+    ensures bits { result ≡ spec.wants_some global (rank event) }
+    ensures nothing { result ≡ false → (tool : ℕ) → tool < 6 → is_wanted global (rank event) tool ≡ false }
+{
+    match event.rank() {
+        None => false,
+        Some(rank) => (global >> (6 * rank)) % 64 > 0,
+    }
 }

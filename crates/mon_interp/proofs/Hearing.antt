@@ -1,5 +1,5 @@
 -- A step that was done and heard is one of an advance.
-use Rattle.std.proofs.Common.{◌≡◌, ℕ, ◌+◌, ◌<◌, Bool, true, false, ◌||◌, cond, List, [], ◌∷◌, ◌++◌, length, take, Option, Some, None, refl, sym, ap, ◌∙◌, subst, arith, append-nil, append_assoc}
+use Rattle.std.proofs.Common.{◌≡◌, ℕ, ◌+◌, Bool, true, false, ◌||◌, cond, IsTrue, List, [], ◌∷◌, ◌++◌, length, take, Option, Some, None, refl, sym, ap, ◌∙◌, subst, arith, append-nil, append_assoc}
 use Rattle.std.specs.Prelude.{◌==◌, if◌then◌else◌}
 use Rattle.std.specs.List.{AllByRecursion}
 use Rattle.mon_events.specs.declared.event.Event.{Event}
@@ -8,7 +8,7 @@ use Rattle.mon_events.specs.declared.op.Op.{Op}
 use Rattle.mon_code.specs.declared.program.Code.{Code}
 use Rattle.mon_code.specs.declared.program.Location.{Location}
 use Rattle.mon_code.specs.Programs.{Parts}
-use Rattle.mon_words.specs.Words.{cell_of, is_enabled, Quiet}
+use Rattle.mon_words.specs.Words.{cell_of, is_enabled}
 use Rattle.mon_words.specs.History.{after, cell_at, offs}
 use Rattle.mon_words.proofs.Growing.{grows_refl}
 use Rattle.std.proofs.Math.Seq.{take-length}
@@ -25,15 +25,18 @@ use Rattle.mon_recorders.specs.declared.record.Disabled.{Disabled}
 use Rattle.mon_recorders.specs.Happenings.{is_global_kind, records_in, disables_in}
 use Rattle.mon_recorders.specs.Boards.{let_through, is_enabled_by, IsReadBy, AreReadBy, AreAt}
 use Rattle.mon_recorders.proofs.Folds.{for_tools_same, for_tools_never}
-use Rattle.mon_hear.specs.Words.{loads, globals, any_global, any_enabled}
-use Rattle.mon_hear.specs.Hearing.{Heard, UnwindingHeard, AreGlobal}
+use Rattle.mon_hear.specs.Words.{loads, callback_loads, globals, any_global, any_enabled, IsAskedPart}
+use Rattle.mon_hear.specs.Hearing.{Heard, UnwindingHeard, Retiring, AreGlobal}
 use Rattle.mon_hear.proofs.Steps.{all_read, one_step, whole, word_read}
-use Rattle.mon_hear.proofs.Passing.{heard_quiet, global_read}
+use Rattle.mon_hear.proofs.Agreeing.{loads_same}
+use Rattle.mon_hear.proofs.Parting.{loads_part, heard_part, part_at, part_global}
+use Rattle.mon_hear.proofs.Passing.{global_read}
 use Rattle.mon_machine.specs.declared.mode.Ending.{Ending}
 use Rattle.mon_machine.specs.declared.mode.Mode.{Mode}
 use Rattle.mon_machine.specs.State.{State, Move, with_frame, goes}
 use Rattle.mon_machine.specs.Events as events
-use Rattle.mon_machine.specs.Events.{Shown, SlotEvent, happens, of_call, local_event, line_events, slot_events, ancillary_events, raise_events, instruction_events}
+use Rattle.mon_events.specs.Ops.{main_event}
+use Rattle.mon_machine.specs.Events.{Shown, SlotEvent, happens, shown, of_call, local_event, line_events, slot_events, ancillary_events, raise_events, instruction_events}
 use Rattle.mon_machine.specs.Moves.{effect}
 use Rattle.mon_machine.specs.Step.{Step, step, executed, performed, with_line, after_ending, stuck, unwinds}
 use Rattle.mon_values.specs.declared.value.Exc.{Exc}
@@ -42,7 +45,13 @@ use Rattle.mon_machine.specs.Advances as advances
 use Rattle.mon_machine.specs.Advances.{Progress, Due, RanStep, instruction_due, loads_for, loads_of, location_load, board_at}
 use Rattle.mon_machine.specs.AdvanceLaws.{StandAt}
 use Rattle.mon_machine.proofs.Locating.{events_stand, instruction_at}
+use Rattle.mon_interp.specs.Asking.{asks_for}
 use Rattle.mon_interp.specs.Machines.{HeardStep}
+use Rattle.mon_interp.specs.Moving.{is_raising}
+use Rattle.mon_interp.specs.declared.events.Place.{Place}
+use Rattle.mon_interp.specs.Places.{IsAt, standing}
+use Rattle.mon_interp.proofs.Listing.{line_at, raise_at}
+use Rattle.mon_interp.proofs.Asking.{instruction_unasked, main_unasked, ancillary_unasked, part_insert}
 
 -- ---- loads
 
@@ -65,33 +74,13 @@ loads_are b word es r =
     let y = for_tools_same (λ t. any_enabled word b.global t es) (λ t. advances.any_enabled b t es) Load.Callbacks 6 (λ t h. any_same b word t es r) in
     λ i. cond (x i) (Load.Global ∷ []) [] ++ y i
 
--- where nothing is enabled at a location the global events need all that its events do
-not_enabled : (word g t : ℕ) (k : Kind) (e : Event) → Quiet (cell_of word) → t < 6 → is_global_kind k ≡ false → is_enabled_by (λ l. cell_of word) g k t e ≡ false
-not_enabled word g t (Local l s) e q h n = q s t h
-not_enabled word g t (Ancillary l) e q h n = q Slot.Main t h
-not_enabled word g t Global e q h n = absurd (cc (n))
-
-any_quiet : (word g t : ℕ) (es : List Happening) → Quiet (cell_of word) → t < 6 → any_enabled word g t (globals es) ≡ any_enabled word g t es
-any_quiet word g t [] q h = refl
-any_quiet word g t (e ∷ es) q h = split (any_quiet word g t es q h) (is_global_kind e.kind) refl
-  where
-    split : any_enabled word g t (globals es) ≡ any_enabled word g t es → (x : Bool) → is_global_kind e.kind ≡ x → any_enabled word g t (cond x (e ∷ globals es) (globals es)) ≡ any_enabled word g t (e ∷ es)
-    split rest true n = ap (λ z. is_enabled_by (λ l. cell_of word) g e.kind t e.event || z) rest
-    split rest false n = rest ∙ ap (λ z. z || any_enabled word g t es) (sym (not_enabled word g t e.kind e.event q h n))
-
-any_global_quiet : (es : List Happening) → any_global (globals es) ≡ any_global es
-any_global_quiet [] = refl
-any_global_quiet (e ∷ es) = split (any_global_quiet es) (is_global_kind e.kind) refl
+any_global_locals : (es : List Happening) → any_global (globals es) ≡ any_global es
+any_global_locals [] = refl
+any_global_locals (e ∷ es) = split (any_global_locals es) (is_global_kind e.kind) refl
   where
     split : any_global (globals es) ≡ any_global es → (x : Bool) → is_global_kind e.kind ≡ x → any_global (cond x (e ∷ globals es) (globals es)) ≡ any_global (e ∷ es)
     split rest true n = ap (λ z. is_global_kind e.kind || z) rest
     split rest false n = rest ∙ ap (λ z. z || any_global es) (sym n)
-
-loads_quiet : (word g : ℕ) (es : List Happening) → Quiet (cell_of word) → loads word g (globals es) ≡ loads word g es
-loads_quiet word g es q =
-    let x = any_global_quiet es in
-    let y = for_tools_same (λ t. any_enabled word g t (globals es)) (λ t. any_enabled word g t es) Load.Callbacks 6 (λ t h. any_quiet word g t es q h) in
-    λ i. cond (x i) (Load.Global ∷ []) [] ++ y i
 
 pub no_loads : (word g : ℕ) → loads word g [] ≡ []
 no_loads word g = for_tools_never (λ t. any_enabled word g t []) Load.Callbacks 6 (λ t h. refl)
@@ -129,13 +118,6 @@ raise_global p f (Ending.Reraises e) = refl
 raise_global p f (Ending.Returns x) = refl
 raise_global p f Ending.Misses = refl
 
-pub raise_all_global : (p : Parts) (f : Frame) (ending : Ending) → AreGlobal (raise_events p f ending)
-raise_all_global p f Ending.Continues = tt
-raise_all_global p f (Ending.Raises e) = (refl, tt)
-raise_all_global p f (Ending.Reraises e) = (refl, tt)
-raise_all_global p f (Ending.Returns x) = tt
-raise_all_global p f Ending.Misses = tt
-
 instruction_globals : (p : Parts) (op : Op) (n location : ℕ) (line : Option ℕ) (f : Frame) (m : Move) → globals (instruction_events p op n location line f m) ≡ raise_events p f m.ending
 instruction_globals p op n location line f m =
     let xs : List Happening = line_events f location line f.line in
@@ -151,44 +133,128 @@ instruction_globals p op n location line f m =
     ∙ ap (λ (l : List Happening). l ++ globals raised) (ancillary_local m.ancillary (of_call p n f.stack) location f)
     ∙ raise_global p f m.ending
 
+any_global_raised : (p : Parts) (f : Frame) (ending : Ending) → any_global (raise_events p f ending) ≡ is_raising ending
+any_global_raised p f Ending.Continues = refl
+any_global_raised p f (Ending.Raises e) = refl
+any_global_raised p f (Ending.Reraises e) = refl
+any_global_raised p f (Ending.Returns x) = refl
+any_global_raised p f Ending.Misses = refl
+
+raising : (p : Parts) (op : Op) (n location : ℕ) (line : Option ℕ) (f : Frame) (m : Move) → any_global (instruction_events p op n location line f m) ≡ is_raising m.ending
+raising p op n location line f m =
+    sym (any_global_locals (instruction_events p op n location line f m)) ∙ ap any_global (instruction_globals p op n location line f m) ∙ any_global_raised p f m.ending
+
 -- ---- an instruction that was heard
 
-pub heard_loud : (p : Parts) (c : Code) (op : Op) (l : Location) (f : Frame) (v : FramesView) (m : Move) (word : ℕ) (a b : Told) (old new : Progress) (es : List Happening)
+-- without an event of a slot but LINE: the others are not asked for
+pub plain_part : (p : Parts) (op : Op) (n location : ℕ) (line : Option ℕ) (f : Frame) (m : Move) (word global : ℕ) (xs : List Happening) → asks_for word Slot.Instruction ≡ false → asks_for word Slot.Main ≡ false
+    → IsAskedPart word global xs (line_events f location line f.line ++ raise_events p f m.ending) → IsAskedPart word global xs (instruction_events p op n location line f m)
+plain_part p op n location line f m word global xs unset none h =
+    let before : List Happening = line_events f location line f.line in
+    let main : List Happening = slot_events (local_event p op n f m) location f in
+    let anc : List Happening = ancillary_events m.ancillary (of_call p n f.stack) location f in
+    let raised : List Happening = raise_events p f m.ending in
+    let i : Happening = happens Event.Instruction (Local location Slot.Instruction) f (events.offset f) in
+    part_insert word global xs before (i ∷ []) (main ++ (anc ++ raised)) (instruction_unasked word global f location (events.offset f) unset)
+    (part_insert word global xs before main (anc ++ raised) (main_unasked word global f location (main_event op n) (shown p op n f m.frames.calls) none)
+    (part_insert word global xs before anc raised (ancillary_unasked word global f location m.ancillary (of_call p n f.stack) none) h))
+
+-- by those of its events that are asked for
+pub heard_asked : (p : Parts) (c : Code) (op : Op) (l : Location) (f : Frame) (v : FramesView) (m : Move) (word global location : ℕ) (a b : Told) (old new : Progress) (xs : List Happening)
+    → cell_of word ≡ cell_at (after a.first a.seen) location → location ≡ c.first + f.index
     → effect p c op l.argument (with_line l.line f) (with_frame v (with_line l.line f)) ≡ m → after_ending p m.frames m.ending ≡ new.state → new.printed ≡ old.printed ++ m.printed → new.steps ≡ old.steps + 1
-    → es ≡ instruction_events p op l.argument (c.first + f.index) l.line f m → Heard old.steps es a b old.records new.records old.disables new.disables
-    → b.tally.loads ≡ a.tally.loads ++ loads word (after a.first a.seen).global es → HeardStep (executed p c op l f v) word a b old new
-heard_loud p c op l f v m word a b old new es e state printed steps is heard loaded =
-    subst (λ (x : Move). HeardStep (performed p op l (c.first + f.index) f x) word a b old new) (sym e) (record {
+    → IsAskedPart word global xs (instruction_events p op l.argument location l.line f m) → (IsTrue (is_raising m.ending) → global ≡ (after a.first a.seen).global)
+    → Heard old.steps xs a b old.records new.records old.disables new.disables
+    → b.tally.loads ≡ a.tally.loads ++ (cond (is_raising m.ending) (Load.Global ∷ []) [] ++ callback_loads word global xs 6) → Retiring a b location word
+    → HeardStep (executed p c op l f v) location word a b old new
+heard_asked p c op l f v m word global location a b old new xs here number e state printed steps part known heard loaded retired =
+    let d : Board = after a.first a.seen in
+    let all : List Happening = instruction_events p op l.argument location l.line f m in
+    let raises : any_global all ≡ is_raising m.ending = raising p op l.argument location l.line f m in
+    let asked : IsTrue (any_global all) → global ≡ d.global = λ y. known (sym raises ∙ y) in
+    let at : AreAt location all = instruction_at p location f op l.argument l.line m in
+    let loads : cond (is_raising m.ending) (Load.Global ∷ []) [] ++ callback_loads word global xs 6 ≡ loads word d.global all =
+    let x : callback_loads word global xs 6 ≡ callback_loads word d.global all 6 = loads_part word global xs all part ∙ loads_same word global d.global all asked in
+    (λ i. cond (sym raises i) (Load.Global ∷ []) [] ++ x i) in
+    let done : HeardStep (performed p op l location f m) location word a b old new = record {
       state = sym state;
       printed = printed;
       steps = steps;
-      heard = subst (λ (l : List Happening). Heard old.steps l a b old.records new.records old.disables new.disables) is heard;
-      loads = loaded ∙ ap (λ (l : List Happening). a.tally.loads ++ loads word (after a.first a.seen).global l) is;
-    })
-
--- where nothing is enabled, by the global events alone
-pub heard_still : (p : Parts) (c : Code) (op : Op) (l : Location) (f : Frame) (v : FramesView) (m : Move) (word location : ℕ) (a b : Told) (old new : Progress) (es : List Happening)
-    → cell_of word ≡ cell_at (after a.first a.seen) location → Quiet (cell_of word) → location ≡ c.first + f.index
-    → effect p c op l.argument (with_line l.line f) (with_frame v (with_line l.line f)) ≡ m → after_ending p m.frames m.ending ≡ new.state → new.printed ≡ old.printed ++ m.printed → new.steps ≡ old.steps + 1
-    → es ≡ raise_events p f m.ending → Heard old.steps es a b old.records new.records old.disables new.disables
-    → b.tally.loads ≡ a.tally.loads ++ loads word (after a.first a.seen).global es → HeardStep (executed p c op l f v) word a b old new
-heard_still p c op l f v m word location a b old new es here quiet number e state printed steps is heard loaded =
-    let all : List Happening = instruction_events p op l.argument (c.first + f.index) l.line f m in
-    let some : globals all ≡ es = instruction_globals p op l.argument (c.first + f.index) l.line f m ∙ sym is in
-    let at : AreAt (c.first + f.index) all = instruction_at p (c.first + f.index) f op l.argument l.line m in
-    heard_loud p c op l f v m word a b old new all e state printed steps refl
-    (heard_quiet old.steps (c.first + f.index) word all es a b old.records new.records old.disables new.disables (here ∙ ap (cell_at (after a.first a.seen)) number) quiet at some heard)
-    (loaded ∙ ap (λ (l : List Happening). a.tally.loads ++ loads word (after a.first a.seen).global l) (sym some) ∙ ap (λ (l : List Load). a.tally.loads ++ l) (loads_quiet word (after a.first a.seen).global all quiet))
+      heard = heard_part old.steps word global xs all a b old.records new.records old.disables new.disables (all_read d word location all here at) asked part heard;
+      loads = loaded ∙ ap (λ (x : List Load). a.tally.loads ++ x) loads;
+      retired = retired;
+    } in
+    subst (λ (x : Move). HeardStep (performed p op l (c.first + f.index) f x) location word a b old new) (sym e)
+    (subst (λ k. HeardStep (performed p op l k f m) location word a b old new) number done)
 
 -- nothing to hear
 pub heard_none : (i : ℕ) (a b : Told) (rs : List Record) (ds : List Disabled) → Grows a b [] → Heard i [] a b rs rs ds ds
 heard_none i a b rs ds g = record { grows = g; records = sym (append-nil rs); disables = sym (append-nil ds) }
 
+-- the global word is in hand where an event that was listed is enabled by it
+pub known_part : (p : Parts) (op : Op) (n location : ℕ) (line : Option ℕ) (f : Frame) (m : Move) (word global g : ℕ) (xs : List Happening) → IsAskedPart word global xs (instruction_events p op n location line f m) → (IsTrue (is_raising m.ending) → global ≡ g) → IsTrue (any_global xs) → global ≡ g
+known_part p op n location line f m word global g xs part known y =
+    known (sym (raising p op n location line f m) ∙ part_global word global xs (instruction_events p op n location line f m) part y)
+
+-- LINE and what is raised, as listed by the place alone
+pub plain_listed : (p : Parts) (place : Place) (f : Frame) (location : ℕ) (line last : Option ℕ) (ending : Ending) → IsAt place f → last ≡ f.line
+    → line_events (standing place) location line last ++ raise_events p (standing place) ending ≡ line_events f location line f.line ++ raise_events p f ending
+plain_listed p place f location line last ending at is =
+    let x : line_events (standing place) location line last ≡ line_events f location line f.line = line_at place f at location line last ∙ ap (λ (l : Option ℕ). line_events f location line l) is in
+    let y : raise_events p (standing place) ending ≡ raise_events p f ending = raise_at place f at p ending in
+    λ i. x i ++ y i
+
+at_append : (location : ℕ) (xs ys : List Happening) → AreAt location xs → AreAt location ys → AreAt location (xs ++ ys)
+at_append location [] ys h k = k
+at_append location (x ∷ xs) ys h k = (h.0, at_append location xs ys h.1 k)
+
+raise_here : (p : Parts) (f : Frame) (location : ℕ) (ending : Ending) → AreAt location (raise_events p f ending)
+raise_here p f location Ending.Continues = tt
+raise_here p f location (Ending.Raises e) = (tt, tt)
+raise_here p f location (Ending.Reraises e) = (tt, tt)
+raise_here p f location (Ending.Returns x) = tt
+raise_here p f location Ending.Misses = tt
+
+-- LINE alone
+line_choice_here : (f : Frame) (location line : ℕ) (same : Bool) → AreAt location (if same then [] else happens Event.Line (Local location Slot.Line) f line ∷ [])
+line_choice_here f location line true = tt
+line_choice_here f location line false = (refl, tt)
+
+line_here : (f : Frame) (location : ℕ) (line last : Option ℕ) → AreAt location (line_events f location line last)
+line_here f location None last = tt
+line_here f location (Some line) None = (refl, tt)
+line_here f location (Some line) (Some last) = line_choice_here f location line (line == last)
+
+line_not_global : (f : Frame) (location : ℕ) (line last : Option ℕ) → any_global (line_events f location line last) ≡ false
+line_not_global f location line last = sym (any_global_locals (line_events f location line last)) ∙ ap any_global (line_local f location line last)
+
+pub line_at_location : (word global location : ℕ) (f : Frame) (line last : Option ℕ) (xs : List Happening) → IsAskedPart word global xs (line_events f location line last) → AreAt location xs
+line_at_location word global location f line last xs part = part_at word global location xs (line_events f location line last) part (line_here f location line last)
+
+pub plain_at_location : (p : Parts) (word global location : ℕ) (f : Frame) (line last : Option ℕ) (ending : Ending) (xs : List Happening) → IsAskedPart word global xs (line_events f location line last ++ raise_events p f ending) → AreAt location xs
+plain_at_location p word global location f line last ending xs part =
+    part_at word global location xs (line_events f location line last ++ raise_events p f ending) part (at_append location (line_events f location line last) (raise_events p f ending) (line_here f location line last) (raise_here p f location ending))
+
+pub line_known : (word global location : ℕ) (f : Frame) (line last : Option ℕ) (xs : List Happening) (g : ℕ) → IsAskedPart word global xs (line_events f location line last) → IsTrue (any_global xs) → 0 ≡ g
+line_known word global location f line last xs g part y = absurd (cc (part_global word global xs (line_events f location line last) part y, line_not_global f location line last))
+
+pub heard_line : (step word location : ℕ) (f : Frame) (line last : Option ℕ) (xs : List Happening) (a b : Told) (rs rs2 : List Record) (ds ds2 : List Disabled) → cell_of word ≡ cell_at (after a.first a.seen) location
+    → IsAskedPart word 0 xs (line_events f location line last) → Heard step xs a b rs rs2 ds ds2 → Heard step (line_events f location line last) a b rs rs2 ds ds2
+heard_line step word location f line last xs a b rs rs2 ds ds2 here part h =
+    let es : List Happening = line_events f location line last in
+    heard_part step word 0 xs es a b rs rs2 ds ds2 (all_read (after a.first a.seen) word location es here (line_here f location line last)) (λ y. absurd (cc (y, line_not_global f location line last))) part h
+
+pub loads_line : (word location : ℕ) (f : Frame) (line last : Option ℕ) (xs : List Happening) (a b : List Load) → IsAskedPart word 0 xs (line_events f location line last) → b ≡ a ++ callback_loads word 0 xs 6 → b ≡ a ++ callback_loads word 0 (line_events f location line last) 6
+loads_line word location f line last xs a b part e = e ∙ ap (λ (l : List Load). a ++ l) (loads_part word 0 xs (line_events f location line last) part)
+
+pub loads_unheard : (word : ℕ) (a b : List Load) → b ≡ a → b ≡ a ++ callback_loads word 0 [] 6
+loads_unheard word a b e = e ∙ sym (append-nil a) ∙ ap (λ (l : List Load). a ++ l) (sym (no_loads word 0))
+
 -- ---- a step of an advance
 
 -- one with an instruction
 pub ran_located : (p : Parts) (due : Due) (word : ℕ) (a c b : Told) (old new : Progress) → Owns a → goes old.state.mode ≡ true → Loads a due.location word c → instruction_due p old.state ≡ Some due
-    → HeardStep (step p old.state) word c b old new → RanStep p (length c.seen) a b old new
+    → HeardStep (step p old.state) due.location word c b old new → RanStep p (length c.seen) a b old new
 ran_located p due word a c b old new own on l is h =
     let es : List Happening = (step p old.state).events in
     let at : AreAt due.location es = subst (λ (d : Option Due). StandAt d es) is (events_stand p old.state) in
@@ -246,17 +312,18 @@ ran_elsewhere p a b old new on is grows state printed disables steps h loaded =
     }
 
 -- a step that got stuck was not heard
-pub heard_stuck : (v : FramesView) (word : ℕ) (a : Told) (old new : Progress) → new ≡ record old { state = record { frames = v; mode = Mode.Stuck }; steps = old.steps + 1 } → HeardStep (stuck v) word a a old new
-heard_stuck v word a old new e = record {
+pub heard_stuck : (v : FramesView) (location word : ℕ) (a b : Told) (old new : Progress) → new ≡ record old { state = record { frames = v; mode = Mode.Stuck }; steps = old.steps + 1 } → Grows a b [] → b.tally.loads ≡ a.tally.loads → Retiring a b location word → HeardStep (stuck v) location word a b old new
+heard_stuck v location word a b old new e grows loaded retired = record {
   state = ap (λ (x : Progress). x.state) e;
   printed = ap (λ (x : Progress). x.printed) e ∙ sym (append-nil old.printed);
   steps = ap (λ (x : Progress). x.steps) e;
   heard = record {
-    grows = grows_refl a;
+    grows = grows;
     records = ap (λ (x : Progress). x.records) e ∙ sym (append-nil old.records);
     disables = ap (λ (x : Progress). x.disables) e ∙ sym (append-nil old.disables);
   };
-  loads = sym (append-nil a.tally.loads) ∙ ap (λ (l : List Load). a.tally.loads ++ l) (sym (no_loads word (after a.first a.seen).global));
+  loads = loaded ∙ sym (append-nil a.tally.loads) ∙ ap (λ (l : List Load). a.tally.loads ++ l) (sym (no_loads word (after a.first a.seen).global));
+  retired = retired;
 }
 
 -- where there was no instruction

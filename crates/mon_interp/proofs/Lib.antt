@@ -1,4 +1,5 @@
 pub mod Answered
+pub mod Asking
 pub mod Builtins
 pub mod Listing
 pub mod Globals

@@ -1,5 +1,5 @@
 -- The events of a step, by the place of its instruction.
-use Rattle.std.proofs.Common.{◌≡◌, ℕ, ◌*◌, Bool, true, false, inl, inr, List, [], ◌∷◌, ◌++◌, Option, Some, None, refl, ap, ◌∙◌, subst, append_assoc}
+use Rattle.std.proofs.Common.{◌≡◌, ℕ, ◌*◌, Bool, true, false, inl, inr, List, [], ◌∷◌, ◌++◌, Option, Some, None, refl, ap, ◌∙◌, subst}
 use Rattle.std.specs.Prelude.{◌==◌, if◌then◌else◌, option_map, slice_get}
 use Rattle.mon_values.specs.declared.value.Exc.{Exc}
 use Rattle.mon_values.specs.declared.value.Value.{Value, Exc as Raised-value}
@@ -25,6 +25,8 @@ use Rattle.mon_machine.specs.Events.{Shown, SlotEvent, happens, showing, offset,
 use Rattle.mon_interp.specs.declared.events.Place.{Place}
 use Rattle.mon_interp.specs.declared.shows.Shows.{Shows}
 use Rattle.mon_interp.specs.declared.step.Before.{Before}
+use Rattle.mon_interp.specs.Asking.{asks_for, Adds}
+use Rattle.mon_interp.proofs.Asking.{adds_more}
 use Rattle.mon_interp.specs.Places.{standing, IsAt, IsBefore, ShowsFor, Answered}
 use Rattle.mon_interp.specs.Shows.{shown_in, going, values, dest}
 
@@ -76,49 +78,45 @@ shown_by : (p : Parts) (op : Op) (n : ℕ) (f : Frame) (calls : List Call) → o
 shown_by p Op.EndFor n f calls = stop p (slice_get f.stack 0)
 shown_by p _ n f calls = refl
 
-both_maps : (to : ℕ) (shows : Option Shows) → option_map (λ s. going to (shown_in s)) shows ≡ option_map (going to) (option_map shown_in shows)
-both_maps to None = refl
-both_maps to (Some s) = refl
-
 call_shows : (p : Parts) (op : Op) (n : ℕ) (f : Frame) (shows : Option Shows) (ancillary : Option Event) → option_map shown_in shows ≡ values p op n f → Answered op ancillary → ShowsFor ancillary shows (of_call p n f.stack)
 call_shows p op n f shows None e a = tt
 call_shows p op n f shows (Some event) e (inl is) = e ∙ ap (λ (o : Op). values p o n f) is
 call_shows p op n f shows (Some event) e (inr is) = absurd cc
 
--- the events of an instruction, one after the other
-pub listed : (p : Parts) (op : Op) (n : ℕ) (line : Option ℕ) (f : Frame) (b : Before) (m : Move) (to : ℕ) (es1 es2 es3 es4 es5 : List Happening) → IsBefore p op n b.place.location f b → Answered op m.ancillary → to ≡ dest op n (index_in m.frames.calls)
-    → es1 ≡ line_events (standing b.place) b.place.location line b.last
-    → es2 ≡ es1 ++ happens Event.Instruction (Local b.place.location Slot.Instruction) (standing b.place) (2 * b.place.index) ∷ []
-    → es3 ≡ es2 ++ slot_events (in_main (main_event op n) (option_map (λ s. going to (shown_in s)) b.shows)) b.place.location (standing b.place)
-    → ((s : Shown) → ShowsFor m.ancillary b.shows s → es4 ≡ es3 ++ ancillary_events m.ancillary s b.place.location (standing b.place))
-    → es5 ≡ es4 ++ raise_events p (standing b.place) m.ending
-    → es5 ≡ instruction_events p op n b.place.location line f m
-listed p op n line f b m to es1 es2 es3 es4 es5 is answered goes e1 e2 e3 e4 e5 =
+-- the events of an instruction, one after the other, as far as they are asked for
+pub listed : (p : Parts) (op : Op) (n word global : ℕ) (line : Option ℕ) (f : Frame) (b : Before) (m : Move) (to : ℕ) (es0 es1 es2 es3 es4 es5 : List Happening) → IsBefore p op n b.place.location word f b → Answered op m.ancillary → to ≡ dest op n (index_in m.frames.calls)
+    → Adds word global es0 es1 (line_events (standing b.place) b.place.location line b.last)
+    → Adds word global es1 es2 (happens Event.Instruction (Local b.place.location Slot.Instruction) (standing b.place) (2 * b.place.index) ∷ [])
+    → ((s : Option Shown) → (asks_for word Slot.Main ≡ true → option_map shown_in b.shows ≡ s) → Adds word global es2 es3 (slot_events (in_main (main_event op n) (option_map (going to) s)) b.place.location (standing b.place)))
+    → ((s : Shown) → (asks_for word Slot.Main ≡ true → ShowsFor m.ancillary b.shows s) → Adds word global es3 es4 (ancillary_events m.ancillary s b.place.location (standing b.place)))
+    → Adds word global es4 es5 (raise_events p (standing b.place) m.ending)
+    → Adds word global es0 es5 (instruction_events p op n b.place.location line f m)
+listed p op n word global line f b m to es0 es1 es2 es3 es4 es5 is answered goes e1 e2 e3 e4 e5 =
     let location : ℕ = b.place.location in
     let xs : List Happening = line_events f location line f.line in
-    let i : Happening = happens Event.Instruction (Local location Slot.Instruction) f (offset f) in
+    let i : List Happening = happens Event.Instruction (Local location Slot.Instruction) f (offset f) ∷ [] in
     let main : List Happening = slot_events (local_event p op n f m) location f in
     let anc : List Happening = ancillary_events m.ancillary (of_call p n f.stack) location f in
     let raised : List Happening = raise_events p f m.ending in
-    let shows : option_map (λ s. going to (shown_in s)) b.shows ≡ shown p op n f m.frames.calls =
-    both_maps to b.shows ∙ ap (λ (o : Option Shown). option_map (going to) o) is.shows ∙ ap (λ k. option_map (going k) (values p op n f)) goes ∙ shown_by p op n f m.frames.calls in
-    let x1 : es1 ≡ xs = e1 ∙ line_at b.place f is.at location line b.last ∙ ap (λ (l : Option ℕ). line_events f location line l) is.last in
-    let x2 : es2 ≡ xs ++ i ∷ [] = e2 ∙ (λ j. x1 j ++ own_at b.place f is.at Event.Instruction (Local location Slot.Instruction) j ∷ []) in
-    let y3 : slot_events (in_main (main_event op n) (option_map (λ s. going to (shown_in s)) b.shows)) location (standing b.place) ≡ main =
-    slot_at b.place f is.at (in_main (main_event op n) (option_map (λ s. going to (shown_in s)) b.shows)) location ∙ ap (λ (o : Option Shown). slot_events (in_main (main_event op n) o) location f) shows in
-    let x3 : es3 ≡ (xs ++ i ∷ []) ++ main = e3 ∙ (λ j. x2 j ++ y3 j) in
-    let y4 : es4 ≡ es3 ++ ancillary_events m.ancillary (of_call p n f.stack) location (standing b.place) = e4 (of_call p n f.stack) (call_shows p op n f b.shows m.ancillary is.shows answered) in
-    let z4 : ancillary_events m.ancillary (of_call p n f.stack) location (standing b.place) ≡ anc = ancillary_at b.place f is.at m.ancillary (of_call p n f.stack) location in
-    let x4 : es4 ≡ ((xs ++ i ∷ []) ++ main) ++ anc = y4 ∙ (λ j. x3 j ++ z4 j) in
-    let z5 : raise_events p (standing b.place) m.ending ≡ raised = raise_at b.place f is.at p m.ending in
-    let x5 : es5 ≡ (((xs ++ i ∷ []) ++ main) ++ anc) ++ raised = e5 ∙ (λ j. x4 j ++ z5 j) in
-    x5 ∙ append_assoc ((xs ++ i ∷ []) ++ main) anc raised
-    ∙ append_assoc (xs ++ i ∷ []) main (anc ++ raised)
-    ∙ append_assoc xs (i ∷ []) (main ++ (anc ++ raised))
+    let shows : option_map (going to) (values p op n f) ≡ shown p op n f m.frames.calls = ap (λ k. option_map (going k) (values p op n f)) goes ∙ shown_by p op n f m.frames.calls in
+    let x1 : Adds word global es0 es1 xs = subst (λ (l : List Happening). Adds word global es0 es1 l) (line_at b.place f is.at location line b.last ∙ ap (λ (l : Option ℕ). line_events f location line l) is.last) e1 in
+    let x2 : Adds word global es1 es2 i = subst (λ (h : Happening). Adds word global es1 es2 (h ∷ [])) (own_at b.place f is.at Event.Instruction (Local location Slot.Instruction)) e2 in
+    let x3 : Adds word global es2 es3 main =
+    subst (λ (l : List Happening). Adds word global es2 es3 l)
+    (slot_at b.place f is.at (in_main (main_event op n) (option_map (going to) (values p op n f))) location ∙ ap (λ (o : Option Shown). slot_events (in_main (main_event op n) o) location f) shows)
+    (e3 (values p op n f) is.shows) in
+    let x4 : Adds word global es3 es4 anc =
+    subst (λ (l : List Happening). Adds word global es3 es4 l) (ancillary_at b.place f is.at m.ancillary (of_call p n f.stack) location)
+    (e4 (of_call p n f.stack) (λ asked. call_shows p op n f b.shows m.ancillary (is.shows asked) answered)) in
+    let x5 : Adds word global es4 es5 raised = subst (λ (l : List Happening). Adds word global es4 es5 l) (raise_at b.place f is.at p m.ending) e5 in
+    adds_more word global es0 es1 es5 xs (i ++ (main ++ (anc ++ raised))) x1
+    (adds_more word global es1 es2 es5 i (main ++ (anc ++ raised)) x2
+    (adds_more word global es2 es3 es5 main (anc ++ raised) x3
+    (adds_more word global es3 es4 es5 anc raised x4 x5)))
 
 -- what was seen of a frame
-pub looked : (p : Parts) (op : Op) (n number : ℕ) (f g : Frame) (b : Before) → IsBefore p op n number g b → g ≡ f → IsBefore p op n b.place.location f b
-looked p op n number f g b h same = subst (λ (x : Frame). IsBefore p op n b.place.location x b) same (record { at = h.at; location_is = refl; last = h.last; shows = h.shows })
+pub looked : (p : Parts) (op : Op) (n number word : ℕ) (f g : Frame) (b : Before) → IsBefore p op n number word g b → g ≡ f → IsBefore p op n b.place.location word f b
+looked p op n number word f g b h same = subst (λ (x : Frame). IsBefore p op n b.place.location word x b) same (record { at = h.at; location_is = refl; last = h.last; shows = h.shows })
 
 pub answered_by : (p : Parts) (c : Code) (op : Op) (n : ℕ) (f : Frame) (v : FramesView) (m : Move) → effect p c op n f v ≡ m → Answered op m.ancillary
 answered_by p c op n f v m e = subst (λ (x : Move). Answered op x.ancillary) e (effect_none p c op n f v)

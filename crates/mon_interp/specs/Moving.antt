@@ -1,5 +1,5 @@
 -- What the execution of an instruction answers.
-use Rattle.std.specs.Prelude.{◌≡◌, ℕ, ◌<◌, List, [], ◌∷◌, Option, Some, None}
+use Rattle.std.specs.Prelude.{◌≡◌, ℕ, ◌<◌, Bool, true, false, List, [], ◌∷◌, Option, Some, None}
 use Rattle.std.specs.declared.vec.Vec.{Vec}
 use Rattle.std.specs.declared.alloc.Global.{Global}
 use Rattle.mon_values.specs.declared.value.Value.{Value}
@@ -49,3 +49,9 @@ thrown e = record { ending = Ending.Raises e; printed = None; ancillary = Some E
 abbrev pub TakesCall : ℕ → Option (Value × Vec Value Global) → Frame → Frame → Type 0
 TakesCall count None old new = (callee_in count old.stack ≡ None) × (new ≡ old)
 TakesCall count (Some (callee, args)) old new = (callee_in count old.stack ≡ Some callee) × (args.items ≡ args_in count old.stack) × (new ≡ with_stack old (below_in count old.stack))
+
+-- an instruction raises, anew or again
+abbrev pub is_raising : Ending → Bool
+is_raising (Ending.Raises e) = true
+is_raising (Ending.Reraises e) = true
+is_raising _ = false

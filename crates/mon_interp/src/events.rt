@@ -1,12 +1,13 @@
 //! The events of a step.
 
-ghost use Rattle.std.specs.Prelude.{◌≡◌, ◌*◌, ◌<◌, ◌++◌, ◌∷◌, [], option_map, OnOk, IfOk};
+ghost use Rattle.std.specs.Prelude.{◌≡◌, ◌*◌, ◌∷◌, [], ℕ, true, Option, option_map, OnOk, IfOk};
 ghost use Rattle.mon_events.specs.declared.event.Event.TheVariants as event_of;
 ghost use Rattle.mon_events.specs.declared.event.Slot.TheVariants as slot_of;
 ghost use Rattle.mon_values.specs.declared.value.Value.{Exc as RaisedValue};
 ghost use Rattle.mon_recorders.specs.declared.happening.Kind.TheVariants.{Local, Global as GlobalKind};
 ghost use Rattle.mon_machine.specs.Events as spec;
 ghost use Rattle.mon_machine.specs.Events.{Shown as ShownOf};
+ghost use Rattle.mon_interp.specs.Asking.{asks_for, Adds};
 ghost use Rattle.mon_interp.specs.Places.{standing, ShowsFor};
 ghost use Rattle.mon_interp.specs.Shows.{shown_in, going, dest as dest_of};
 
@@ -14,6 +15,7 @@ use crate::shows::{Shows, show_exc};
 use mon_code::Program;
 use mon_events::{Event, Op, Slot};
 use mon_frames::Frames;
+use mon_hear::{asks_global, asks_slot};
 use mon_machine::Ending;
 use mon_recorders::{Cut, Happening, Kind};
 use mon_values::value::Exc;
@@ -70,12 +72,16 @@ fn happens_with(
 /// LINE, where the location has a line that differs from the frame's last one.
 pub fn push_line(
     events: &mut Vec<Happening>,
+    word: u64,
     place: Place,
     line: Option<u32>,
     last: Option<u32>,
 ) -> Result<(), AllocError>
-    ensures { OnOk result (events.new.items ≡ events.old.items ++ spec.line_events (standing place) place.location line last) }
+    ensures { OnOk result ((global : ℕ) → Adds word global events.old.items events.new.items (spec.line_events (standing place) place.location line last)) }
 {
+    if !asks_slot(word, Slot::Line) {
+        return Ok(());
+    }
     let kind = Kind::Local(place.location, Slot::Line);
     match (line, last) {
         (None, _) => Ok(()),
@@ -94,25 +100,36 @@ pub fn push_line(
 }
 
 /// INSTRUCTION
-pub fn push_instruction(events: &mut Vec<Happening>, place: Place) -> Result<(), AllocError>
-    ensures { OnOk result (events.new.items ≡ events.old.items ++ spec.happens event_of.Instruction (Local place.location slot_of.Instruction) (standing place) (2 * place.index) ∷ []) }
+pub fn push_instruction(
+    events: &mut Vec<Happening>,
+    word: u64,
+    place: Place,
+) -> Result<(), AllocError>
+    ensures { OnOk result ((global : ℕ) → Adds word global events.old.items events.new.items (spec.happens event_of.Instruction (Local place.location slot_of.Instruction) (standing place) (2 * place.index) ∷ [])) }
 {
+    if !asks_slot(word, Slot::Instruction) {
+        return Ok(());
+    }
     let kind = Kind::Local(place.location, Slot::Instruction);
     let at = offset_of(place.index)?;
     events.push(happens(place, Event::Instruction, kind, at)?)?;
     Ok(())
 }
 
-/// The event of the MAIN slot, where it occurs.
+/// The event of the MAIN slot, where it occurs. What it shows is known where the word asks for it.
 pub fn push_main(
     events: &mut Vec<Happening>,
+    word: u64,
     place: Place,
     event: Option<Event>,
     to: u32,
     shows: &Option<Shows>,
 ) -> Result<(), AllocError>
-    ensures { OnOk result (events.new.items ≡ events.old.items ++ spec.slot_events (spec.in_main event (option_map (λ s. going to (shown_in s)) shows.now)) place.location (standing place)) }
+    ensures { OnOk result ((global : ℕ) (s : Option ShownOf) → (asks_for word slot_of.Main ≡ true → option_map shown_in shows.now ≡ s) → Adds word global events.old.items events.new.items (spec.slot_events (spec.in_main event (option_map (going to) s)) place.location (standing place))) }
 {
+    if !asks_slot(word, Slot::Main) {
+        return Ok(());
+    }
     match (event, shows) {
         (Some(event), Some(shows)) => {
             let kind = Kind::Local(place.location, Slot::Main);
@@ -126,12 +143,16 @@ pub fn push_main(
 /// C_RETURN or C_RAISE, where a builtin or a class was called.
 pub fn push_ancillary(
     events: &mut Vec<Happening>,
+    word: u64,
     place: Place,
     event: Option<Event>,
     shows: &Option<Shows>,
 ) -> Result<(), AllocError>
-    ensures { OnOk result ((s : ShownOf) → ShowsFor event shows.now s → events.new.items ≡ events.old.items ++ spec.ancillary_events event s place.location (standing place)) }
+    ensures { OnOk result ((global : ℕ) (s : ShownOf) → (asks_for word slot_of.Main ≡ true → ShowsFor event shows.now s) → Adds word global events.old.items events.new.items (spec.ancillary_events event s place.location (standing place))) }
 {
+    if !asks_slot(word, Slot::Main) {
+        return Ok(());
+    }
     match (event, shows) {
         (Some(event), Some(shows)) => {
             let kind = Kind::Ancillary(place.location);
@@ -147,12 +168,16 @@ pub fn push_exception(
     alloc: Global,
     program: &Program,
     events: &mut Vec<Happening>,
+    global: u64,
     place: Place,
     event: Event,
     exc: &Exc,
 ) -> Result<(), AllocError>
-    ensures { OnOk result (events.new.items ≡ events.old.items ++ spec.of_exception program.now event exc.now (standing place) ∷ []) }
+    ensures { OnOk result ((word : ℕ) → Adds word global events.old.items events.new.items (spec.of_exception program.now event exc.now (standing place) ∷ [])) }
 {
+    if !asks_global(global, event) {
+        return Ok(());
+    }
     let shows = show_exc(alloc, program, exc)?;
     events.push(happens_with(place, event, Kind::Global, 0, &shows)?)?;
     Ok(())
@@ -163,15 +188,18 @@ pub fn push_raise(
     alloc: Global,
     program: &Program,
     events: &mut Vec<Happening>,
+    global: u64,
     place: Place,
     ending: &Ending,
 ) -> Result<(), AllocError>
-    ensures { OnOk result (events.new.items ≡ events.old.items ++ spec.raise_events program.now (standing place) ending.now) }
+    ensures { OnOk result ((word : ℕ) → Adds word global events.old.items events.new.items (spec.raise_events program.now (standing place) ending.now)) }
 {
     match ending {
-        Ending::Raises(exc) => push_exception(alloc, program, events, place, Event::Raise, exc),
+        Ending::Raises(exc) => {
+            push_exception(alloc, program, events, global, place, Event::Raise, exc)
+        }
         Ending::Reraises(exc) => {
-            push_exception(alloc, program, events, place, Event::Reraise, exc)
+            push_exception(alloc, program, events, global, place, Event::Reraise, exc)
         }
         Ending::Continues | Ending::Returns(_) | Ending::Misses => Ok(()),
     }

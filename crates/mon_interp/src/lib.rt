@@ -10,6 +10,7 @@ mod global;
 mod handling;
 mod iterate;
 mod jump;
+mod listen;
 mod load;
 mod machine;
 mod operate;

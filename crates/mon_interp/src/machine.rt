@@ -8,20 +8,21 @@ ghost use Rattle.mon_interp.specs.Machines.{PolledDue};
 ghost use Rattle.mon_interp.specs.Moving.{texts};
 
 use crate::done::Done;
-use crate::events::{Place, push_raise};
+use crate::events::Place;
+use crate::listen::{hear_line, load_raised, load_unwinding};
 use crate::perform::perform;
 use crate::settle::{settle, unwind};
-use crate::step::{act, instruct_in_place, list_events, look};
+use crate::step::{act, instruct_in_place, list_events, list_plain, look};
 use crate::thread::Stop;
 use mon_code::{Code, Location, Program};
-use mon_events::{Op, op_of_number};
+use mon_events::{Op, Slot, op_of_number};
 use mon_frames::Frames;
-use mon_hear::{hear, hear_unwinding, retire_due};
+use mon_hear::{asks_slot, hear_asked, hear_unwinding_asked, retire_due};
 use mon_machine::Mode;
-use mon_recorders::{Disabled, Outcome, Records, ThreadReport};
+use mon_recorders::{Disabled, Happening, Outcome, Records, ThreadReport};
 use mon_values::text::Text;
 use mon_values::value::Exc;
-use mon_words::{Handle, is_quiet, unpack};
+use mon_words::{Handle, unpack};
 use sqlite_items::Items;
 use std::alloc::{AllocError, Global};
 use std::mem;
@@ -36,6 +37,8 @@ pub struct Machine {
     pub records: Records,
     pub disables: Items<Disabled>,
     pub steps: u64,
+    // The events of a step that are asked for, while it is done.
+    pub events: Vec<Happening>,
 }
 
 // Adds a text, if there is one, to those that were printed.
@@ -80,7 +83,8 @@ fn poll_due<H: Handle>(handle: &mut H, is_safe: bool) -> bool
 
 impl Machine {
     ghost use Rattle.std.specs.Prelude.{◌≡◌, ◌+◌, ◌++◌, ◌<◌, ◌≤◌, ◌^◌, Some, None, map, true, false, length, ℕ, List, IsTrue, OnOk, IfOk, []};
-    ghost use Rattle.mon_words.specs.Words.{cell_of, Quiet};
+    ghost use Rattle.mon_events.specs.declared.event.Slot.TheVariants as slot_of;
+    ghost use Rattle.mon_words.specs.Words.{cell_of};
     ghost use Rattle.mon_words.specs.History.{after, cell_at, base_in};
     ghost use Rattle.mon_words.specs.Told.{Grows, Owns};
     ghost use Rattle.mon_words.specs.declared.history.Mark.{Mark as MarkOf};
@@ -88,9 +92,11 @@ impl Machine {
     ghost use Rattle.mon_frames.specs.Views.{top_of};
     ghost use Rattle.mon_machine.specs.State.{goes};
     ghost use Rattle.mon_machine.specs.Step.{executed, after_ending};
-    ghost use Rattle.mon_machine.specs.Advances.{Advanced, RanStep, Stays, is_asked};
+    ghost use Rattle.mon_machine.specs.Advances.{Advanced, Stays, is_asked};
     ghost use Rattle.mon_machine.specs.declared.mode.Mode.TheVariants.{Run, Stuck};
-    ghost use Rattle.mon_interp.specs.Machines.{progress_of, state_of, HeardStep, StandsHere, StepOrStop, RanUnwinding};
+    ghost use Rattle.mon_interp.specs.Machines.{progress_of, state_of, HeardStep, StandsHere, DoneStep, StepOrStop, RanUnwinding};
+    ghost use Rattle.mon_interp.specs.Retires.{Retired};
+    ghost use Rattle.mon_interp.specs.Asking.{asks_for};
     ghost use Rattle.mon_interp.specs.Moving.{Stands, texts};
     ghost use Rattle.mon_interp.specs.Places.{IsAt};
     ghost use Rattle.mon_interp.specs.Threads.{reported, stop_due};
@@ -109,15 +115,16 @@ impl Machine {
         ensures printed { OnOk result (self.new.printed ≡ self.old.printed ++ texts done.printed) }
         ensures records { (self.new.records ≡ self.old.records) × (self.new.disables ≡ self.old.disables) }
         ensures steps { self.new.steps ≡ self.old.steps }
+        ensures events { self.new.events.items ≡ self.old.events.items }
     {
         let mode = settle(program, &mut self.frames, done.ending)?;
         turn(&mut self.mode, mode);
         add_text(&mut self.printed, done.printed)
     }
 
-    /// One instruction, at a location whose word enables nothing. Of its events those alone are looked at that are global.
+    /// One instruction, at a location whose word asks for no event of a slot but LINE.
     #[tactic(auto, using(crate::proofs::Standing::one_stands))]
-    fn quiet_step<H: Handle>(
+    fn plain_step<H: Handle>(
         &mut self,
         program: &Program,
         code: &Code,
@@ -130,31 +137,55 @@ impl Machine {
         requires attached { IsTrue (H.told handle.old).attached }
         requires within { place.location < length (H.told handle.old).first.cells }
         requires loaded { cell_of word ≡ cell_at (after (H.told handle.old).first (H.told handle.old).seen) place.location }
-        requires quiet { Quiet (cell_of word) }
+        requires plain { (asks_for word slot_of.Instruction ≡ false) × (asks_for word slot_of.Main ≡ false) }
         requires stands { Stands self.old.frames.calls }
         requires runs { self.old.mode ≡ Run }
         requires counted { self.old.steps < 2 ^ 63 }
-        ensures step { OnOk result ((f : FrameOf) → top_of self.old.frames.calls ≡ Some f → IsAt place f → place.location ≡ code.now.first + f.index → HeardStep (executed program.now code.now op location f self.old.frames) word (H.told handle.old) (H.told handle.new) (progress_of self.old) (progress_of self.new)) }
+        ensures step { OnOk result ((f : FrameOf) → top_of self.old.frames.calls ≡ Some f → IsAt place f → place.location ≡ code.now.first + f.index → HeardStep (executed program.now code.now op location f self.old.frames) place.location word (H.told handle.old) (H.told handle.new) (progress_of self.old) (progress_of self.new)) }
         ensures counted { (self.old.steps ≤ self.new.steps) × (self.new.steps ≤ self.old.steps + 1) }
         ensures stays { (m : List MarkOf) × Grows (H.told handle.old) (H.told handle.new) m }
         ensures rest { H.rest handle.new ≡ H.rest handle.old }
     {
+        let line = location.line;
+        let last = self.frames.top().line;
         if instruct_in_place(program, code, &mut self.frames, op, location) {
-            retire_due(handle, place.location, word);
+            hear_line(
+                handle,
+                place,
+                word,
+                self.steps,
+                line,
+                last,
+                &mut self.events,
+                &mut self.records,
+                &mut self.disables,
+            )?;
             self.steps += 1;
             return Ok(());
         }
         let argument = location.argument;
         let done = perform(self.alloc, program, code, &mut self.frames, op, argument)?;
-        let mut events = Vec::new(self.alloc);
-        push_raise(self.alloc, program, &mut events, place, &done.ending)?;
+        let global = load_raised(handle, &done.ending);
+        self.events.clear();
+        list_plain(
+            self.alloc,
+            program,
+            &mut self.events,
+            word,
+            global,
+            place,
+            line,
+            last,
+            &done.ending,
+        )?;
         self.go_on(program, done)?;
-        hear(
+        hear_asked(
             handle,
             place.location,
             word,
+            global,
             self.steps,
-            events.as_slice(),
+            self.events.as_slice(),
             &mut self.records,
             &mut self.disables,
         )?;
@@ -162,7 +193,7 @@ impl Machine {
         Ok(())
     }
 
-    /// One instruction, at a location whose word enables some events.
+    /// One instruction, at a location with any word.
     #[tactic(auto, using(crate::proofs::Standing::one_stands))]
     fn loud_step<H: Handle>(
         &mut self,
@@ -180,31 +211,37 @@ impl Machine {
         requires stands { Stands self.old.frames.calls }
         requires runs { self.old.mode ≡ Run }
         requires counted { self.old.steps < 2 ^ 63 }
-        ensures step { OnOk result ((f : FrameOf) → top_of self.old.frames.calls ≡ Some f → number ≡ code.now.first + f.index → HeardStep (executed program.now code.now op location f self.old.frames) word (H.told handle.old) (H.told handle.new) (progress_of self.old) (progress_of self.new)) }
+        ensures step { OnOk result ((f : FrameOf) → top_of self.old.frames.calls ≡ Some f → number ≡ code.now.first + f.index → HeardStep (executed program.now code.now op location f self.old.frames) number word (H.told handle.old) (H.told handle.new) (progress_of self.old) (progress_of self.new)) }
         ensures counted { (self.old.steps ≤ self.new.steps) × (self.new.steps ≤ self.old.steps + 1) }
         ensures stays { (m : List MarkOf) × Grows (H.told handle.old) (H.told handle.new) m }
         ensures rest { H.rest handle.new ≡ H.rest handle.old }
     {
         let argument = location.argument;
         let frame = self.frames.top();
-        let before = look(self.alloc, program, frame, number, op, argument)?;
+        let before = look(self.alloc, program, frame, number, word, op, argument)?;
         let done = act(self.alloc, program, code, &mut self.frames, op, location)?;
-        let events = list_events(
+        let global = load_raised(handle, &done.ending);
+        self.events.clear();
+        list_events(
             self.alloc,
             program,
             &self.frames,
+            &mut self.events,
+            word,
+            global,
             &before,
             op,
             location,
             &done,
         )?;
         self.go_on(program, done)?;
-        hear(
+        hear_asked(
             handle,
             number,
             word,
+            global,
             self.steps,
-            events.as_slice(),
+            self.events.as_slice(),
             &mut self.records,
             &mut self.disables,
         )?;
@@ -229,15 +266,18 @@ impl Machine {
         requires stands { Stands self.old.frames.calls }
         requires runs { self.old.mode ≡ Run }
         requires counted { self.old.steps < 2 ^ 63 }
-        ensures step { OnOk result ((f : FrameOf) → top_of self.old.frames.calls ≡ Some f → IsAt place f → place.location ≡ code.now.first + f.index → HeardStep (executed program.now code.now op location f self.old.frames) word (H.told handle.old) (H.told handle.new) (progress_of self.old) (progress_of self.new)) }
+        ensures step { OnOk result ((f : FrameOf) → top_of self.old.frames.calls ≡ Some f → IsAt place f → place.location ≡ code.now.first + f.index → HeardStep (executed program.now code.now op location f self.old.frames) place.location word (H.told handle.old) (H.told handle.new) (progress_of self.old) (progress_of self.new)) }
         ensures counted { (self.old.steps ≤ self.new.steps) × (self.new.steps ≤ self.old.steps + 1) }
         ensures stays { (m : List MarkOf) × Grows (H.told handle.old) (H.told handle.new) m }
         ensures rest { H.rest handle.new ≡ H.rest handle.old }
     {
-        if is_quiet(word) {
-            return self.quiet_step(program, code, handle, place, word, op, location);
+        if asks_slot(word, Slot::Instruction) {
+            return self.loud_step(program, code, handle, place.location, word, op, location);
         }
-        self.loud_step(program, code, handle, place.location, word, op, location)
+        if asks_slot(word, Slot::Main) {
+            return self.loud_step(program, code, handle, place.location, word, op, location);
+        }
+        self.plain_step(program, code, handle, place, word, op, location)
     }
 
     fn get_stuck(&mut self)
@@ -264,7 +304,7 @@ impl Machine {
         requires counted { self.old.steps < 2 ^ 63 }
         requires runs { self.old.mode ≡ Run }
         requires stands { StandsHere program.now code.now location place (state_of self.old) }
-        ensures step { OnOk result ((at : ℕ) × RanStep program.now at (H.told handle.old) (H.told handle.new) (progress_of self.old) (progress_of self.new)) }
+        ensures step { OnOk result (DoneStep program.now (H.told handle.old) (H.told handle.new) (progress_of self.old) (progress_of self.new)) }
         ensures counted { (self.old.steps ≤ self.new.steps) × (self.new.steps ≤ self.old.steps + 1) }
         ensures stays { (m : List MarkOf) × Grows (H.told handle.old) (H.told handle.new) m }
         ensures rest { H.rest handle.new ≡ H.rest handle.old }
@@ -272,6 +312,7 @@ impl Machine {
         let word = handle.load(place.location);
         match op_of_number(unpack(word).base) {
             None => {
+                retire_due(handle, place.location, word);
                 self.get_stuck();
                 Ok(())
             }
@@ -368,10 +409,24 @@ impl Machine {
             self.get_stuck();
             return Ok(());
         }
-        let mut events = Vec::new(self.alloc);
-        let mode = unwind(self.alloc, program, &mut self.frames, exc, &mut events)?;
+        let global = load_unwinding(handle, program, &self.frames);
+        self.events.clear();
+        let mode = unwind(
+            self.alloc,
+            program,
+            &mut self.frames,
+            exc,
+            global,
+            &mut self.events,
+        )?;
         put(&mut self.mode, mode);
-        hear_unwinding(handle, self.steps, events.as_slice(), &mut self.records)?;
+        hear_unwinding_asked(
+            handle,
+            global,
+            self.steps,
+            self.events.as_slice(),
+            &mut self.records,
+        )?;
         self.steps += 1;
         Ok(())
     }
@@ -413,6 +468,7 @@ impl Machine {
         requires bases { map base_in (H.told handle.old).first.cells ≡ program.now.bases }
         requires counted { self.old.steps + steps ≤ 200000 }
         ensures run { OnOk result (Advanced program.now steps (H.told handle.old) (H.told handle.new) (progress_of self.old) (progress_of self.new)) }
+        ensures retired { OnOk result (Retired program.now (H.told handle.old) (H.told handle.new) (progress_of self.old) (progress_of self.new)) }
         ensures stop { IfOk result (λ stop. stop ≡ stop_due (is_asked (H.told handle.old) (H.told handle.new)) self.new.mode) }
         ensures counted { (self.old.steps ≤ self.new.steps) × (self.new.steps ≤ self.old.steps + steps) }
         ensures stays { Stays (H.told handle.old) (H.told handle.new) }
@@ -446,6 +502,7 @@ impl Machine {
             records,
             disables,
             steps,
+            events: _,
         } = self;
         ThreadReport {
             printed,

@@ -1,10 +1,13 @@
 //! How a thread goes on after an instruction, and with an exception that is raised.
 
-ghost use Rattle.std.specs.Prelude.{◌≡◌, ◌<◌, ◌++◌, ◌∷◌, [], List, length, Some, None, OnOk, OnSome, IfOk};
+ghost use Rattle.std.specs.Prelude.{◌≡◌, ◌<◌, ◌∷◌, [], ℕ, List, length, Some, None, OnOk, OnSome, IfOk};
 ghost use Rattle.mon_code.specs.Programs.{Parts};
 ghost use Rattle.mon_events.specs.declared.event.Event.TheVariants as event_of;
 ghost use Rattle.mon_recorders.specs.declared.happening.Happening.{Happening as HappeningOf};
 ghost use Rattle.mon_machine.specs.Events.{of_exception};
+ghost use Rattle.mon_values.specs.declared.value.Exc.{Exc as ExcOf};
+ghost use Rattle.mon_hear.specs.Words.{any_global};
+ghost use Rattle.mon_interp.specs.Asking.{Adds};
 ghost use Rattle.mon_interp.specs.Places.{IsAt};
 ghost use Rattle.mon_frames.specs.declared.call.Origin.{Origin as OriginOf};
 ghost use Rattle.mon_frames.specs.declared.frame.Frame.{Frame as FrameOf};
@@ -114,16 +117,17 @@ fn go_out(
     program: &Program,
     frames: &Frames,
     exc: Exc,
+    global: u64,
     events: &mut Vec<Happening>,
 ) -> Result<Mode, AllocError>
     ensures after { IfOk result (λ mode. (p : Parts) (f : FrameOf) → (spec.goes_out p frames.now frames.now.calls exc f).after ≡ record { frames = frames.now; mode = mode }) }
-    ensures events { OnOk result ((before : List HappeningOf) (f : FrameOf) → events.old.items ≡ before ++ of_exception program.now event_of.PyUnwind exc f ∷ [] → events.new.items ≡ before ++ (spec.goes_out program.now frames.now frames.now.calls exc f).events) }
+    ensures events { OnOk result ((word : ℕ) (before : List HappeningOf) (f : FrameOf) → Adds word global before events.old.items (of_exception program.now event_of.PyUnwind exc f ∷ []) → Adds word global before events.new.items (spec.goes_out program.now frames.now frames.now.calls exc f).events) }
 {
     if frames.depth() == 0 {
         return Ok(Mode::Ended(Outcome::Raised(exc)));
     }
     let place = place_of(frames.top());
-    push_exception(alloc, program, events, place, Event::Raise, &exc)?;
+    push_exception(alloc, program, events, global, place, Event::Raise, &exc)?;
     Ok(Mode::Unwind(exc))
 }
 
@@ -133,46 +137,74 @@ fn leave_raised(
     program: &Program,
     frames: &mut Frames,
     exc: Exc,
+    global: u64,
     events: &mut Vec<Happening>,
 ) -> Result<Mode, AllocError>
     requires { 0 < length frames.old.calls }
     ensures after { IfOk result (λ mode. (p : Parts) (f : FrameOf) (origin : OriginOf) → origin_of frames.old.calls ≡ Some origin → (spec.unwinds_from p frames.old origin exc f None).after ≡ record { frames = frames.new; mode = mode }) }
-    ensures events { OnOk result ((f : FrameOf) (origin : OriginOf) → top_of frames.old.calls ≡ Some f → origin_of frames.old.calls ≡ Some origin → events.new.items ≡ events.old.items ++ (spec.unwinds_from program.now frames.old origin exc f None).events) }
+    ensures events { OnOk result ((word : ℕ) (f : FrameOf) (origin : OriginOf) → top_of frames.old.calls ≡ Some f → origin_of frames.old.calls ≡ Some origin → Adds word global events.old.items events.new.items (spec.unwinds_from program.now frames.old origin exc f None).events) }
 {
     match frames.origin() {
         Origin::Generator(_, _) => Ok(Mode::Stuck),
         Origin::Plain => {
             let left = frames.pop();
             let place = place_of(&left);
-            push_exception(alloc, program, events, place, Event::PyUnwind, &exc)?;
-            go_out(alloc, program, frames, exc, events)
+            push_exception(alloc, program, events, global, place, Event::PyUnwind, &exc)?;
+            go_out(alloc, program, frames, exc, global, events)
         }
     }
 }
 
-/// How a thread goes on with an exception in its top frame. The events of the step are added to the others.
+/// Whether an exception in the top frame is caught there, or leaves a frame that is no generator's; else nothing happens.
+pub fn unwinds_on(program: &Program, frames: &Frames) -> bool
+    ensures { (exc : ExcOf) → result ≡ any_global (spec.unwinds program.now frames.now exc frames.now.calls).events }
+{
+    if frames.depth() == 0 {
+        return false;
+    }
+    let top = frames.top();
+    match handler_of(program, top.code, top.index) {
+        Some(_) => true,
+        None => match frames.origin() {
+            Origin::Generator(_, _) => false,
+            Origin::Plain => true,
+        },
+    }
+}
+
+/// How a thread goes on with an exception in its top frame. The events of the step are added to the others, as far as the
+/// global word asks for them.
 #[tactic(auto, using(crate::proofs::Settling::caught, crate::proofs::Settling::uncaught))]
 pub fn unwind(
     alloc: Global,
     program: &Program,
     frames: &mut Frames,
     exc: Exc,
+    global: u64,
     events: &mut Vec<Happening>,
 ) -> Result<Mode, AllocError>
     requires { 0 < length frames.old.calls }
     ensures after { IfOk result (λ mode. (spec.unwinds program.now frames.old exc frames.old.calls).after ≡ record { frames = frames.new; mode = mode }) }
-    ensures events { OnOk result (events.new.items ≡ events.old.items ++ (spec.unwinds program.now frames.old exc frames.old.calls).events) }
+    ensures events { OnOk result ((word : ℕ) → Adds word global events.old.items events.new.items (spec.unwinds program.now frames.old exc frames.old.calls).events) }
 {
     let top = frames.top();
     match handler_of(program, top.code, top.index) {
-        None => leave_raised(alloc, program, frames, exc, events),
+        None => leave_raised(alloc, program, frames, exc, global, events),
         Some(handler) => {
             let place = Place {
                 code: top.code,
                 index: handler.to,
                 location: 0,
             };
-            push_exception(alloc, program, events, place, Event::ExceptionHandled, &exc)?;
+            push_exception(
+                alloc,
+                program,
+                events,
+                global,
+                place,
+                Event::ExceptionHandled,
+                &exc,
+            )?;
             catch(frames.top_mut(), handler, exc)?;
             Ok(Mode::Run)
         }

@@ -96,6 +96,7 @@ impl Thread {
     ghost use Rattle.mon_machine.specs.State.{goes};
     ghost use Rattle.mon_machine.specs.Bare.{IsBare};
     ghost use Rattle.mon_machine.specs.Advances.{Advanced, Stays, is_asked, plain_after};
+    ghost use Rattle.mon_interp.specs.Retires.{Retired};
     ghost use Rattle.mon_interp.specs.Threads.{beginning, entry_due, reported, stop_due, AnswersEntry};
 
     /// A thread that calls a code, which has this number in its program, with these arguments.
@@ -117,6 +118,7 @@ impl Thread {
             records: Records::new(alloc),
             disables: Items::new(alloc),
             steps: 0,
+            events: Vec::new(alloc),
         };
         Ok(Thread {
             machine,
@@ -161,6 +163,9 @@ impl Thread {
 
         // the plain machine's steps, each heard at its position in the history, and the polls before them
         ensures run { OnOk result (Advanced program.now steps (H.told handle.old) (H.told handle.new) self.old.progress self.new.progress) }
+
+        // of the words that its steps loaded those are retired, once each, whose opcode in place is more than is needed
+        ensures retired { OnOk result (Retired program.now (H.told handle.old) (H.told handle.new) self.old.progress self.new.progress) }
 
         // where nothing is wanted nothing is recorded, and a thread that is not asked to stop goes as far as the plain run does
         ensures bare { IsBare (after (H.told handle.old).first (H.told handle.old).seen) → is_asked (H.told handle.old) (H.told handle.new) ≡ false → OnOk result (self.new.progress ≡ plain_after program.now steps self.old.progress) }

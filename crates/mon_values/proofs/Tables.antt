@@ -54,23 +54,3 @@ pub joined_last : (f : Value → Printed) (items : List Value) (i : ℕ) (x : Va
 joined_last f items i x h k e =
     let n : length (drop (suc i) items) ≡ 0 = omega (arith, length-drop (suc i) items) in
     rw (add-one, drop-cons items i x, ← e) (joined_one f x (drop (suc i) items) n)
-
-regroup : (a b c d : List ℕ) → ((a ++ b) ++ c) ++ d ≡ a ++ ((b ++ c) ++ d)
-regroup a b c d = simp append_assoc
-
--- a turn of the loop over the items
-pub items_more : (f : Value → Printed) (items : List Value) (i : ℕ) (x : Value) (whole out now later : List ℕ) → out ++ joined (map f (drop i items)) ≡ whole → i + 1 < length items → x ≡ get_or items i x
-    → now ≡ out ++ (f x).repr → later ≡ now ++ codes ", " → later ++ joined (map f (drop (i + 1) items)) ≡ whole
-items_more f items i x whole out now later inv h e p q =
-    ap (λ l. l ++ joined (map f (drop (i + 1) items))) (q ∙ ap (λ l. l ++ codes ", ") p)
-    ∙ regroup out (f x).repr (codes ", ") (joined (map f (drop (i + 1) items)))
-    ∙ ap (λ l. out ++ l) (sym (joined_more f items i x h e))
-    ∙ inv
-
-pub items_last : (f : Value → Printed) (items : List Value) (i : ℕ) (x : Value) (whole out now : List ℕ) → out ++ joined (map f (drop i items)) ≡ whole → i < length items → length items ≤ i + 1 → x ≡ get_or items i x
-    → now ≡ out ++ (f x).repr → now ++ joined (map f (drop (i + 1) items)) ≡ whole
-items_last f items i x whole out now inv h k e p =
-    ap (λ l. l ++ joined (map f (drop (i + 1) items))) p
-    ∙ append_assoc out (f x).repr (joined (map f (drop (i + 1) items)))
-    ∙ ap (λ l. out ++ l) (sym (joined_last f items i x h k e))
-    ∙ inv

@@ -5,6 +5,7 @@ pub mod Comparing
 pub mod Containing
 pub mod Indexing
 pub mod Integers
+pub mod Limits
 pub mod Printing
 pub mod Ranges
 pub mod Troubles

@@ -8,6 +8,7 @@ pub mod contain;
 pub mod exc;
 pub mod fault;
 pub mod index;
+mod limited;
 pub mod operator;
 pub mod print;
 pub mod range;

@@ -1,11 +1,13 @@
-ghost use Rattle.std.specs.Prelude.{◌≡◌, ◌==◌, ◌<◌, ◌++◌, map, IfOk, OnOk};
+ghost use Rattle.std.specs.Prelude.{◌≡◌, ◌==◌, ◌<◌, map, take, IfOk, OnOk};
 ghost use Rattle.std.specs.Fmt.{decimal, signed_decimal};
 ghost use Rattle.std.specs.List.{list_any};
 ghost use Rattle.mon_values.specs.Classes.{name_at};
+ghost use Rattle.mon_values.specs.Limits.{written};
 ghost use Rattle.mon_values.specs.Printing as spec;
 
 use crate::class::{builtin_name, class_name};
-use crate::text::{Text, TextBuffer};
+use crate::limited::LimitedBuffer;
+use crate::text::Text;
 use crate::value::{Exc, Value};
 use std::alloc::{AllocError, Global};
 
@@ -19,14 +21,14 @@ fn name_of(names: &[Text], number: u16) -> &[char]
     }
 }
 
-fn write_unsigned(out: &mut TextBuffer, n: u32) -> Result<(), AllocError>
-    ensures { OnOk result (out.new ≡ out.old ++ decimal n) }
+fn write_unsigned(out: &mut LimitedBuffer, n: u32) -> Result<(), AllocError>
+    ensures { OnOk result (out.new ≡ written out.old (decimal n)) }
 {
     out.append_ascii(itoa::Buffer::new().format(n))
 }
 
-fn write_signed(out: &mut TextBuffer, n: i64) -> Result<(), AllocError>
-    ensures { OnOk result (out.new ≡ out.old ++ signed_decimal n) }
+fn write_signed(out: &mut LimitedBuffer, n: i64) -> Result<(), AllocError>
+    ensures { OnOk result (out.new ≡ written out.old (signed_decimal n)) }
 {
     out.append_ascii(itoa::Buffer::new().format(n))
 }
@@ -44,8 +46,9 @@ fn hex_digit(n: u8) -> char
 }
 
 /// A character as it stands between such quotes.
-fn write_escaped(out: &mut TextBuffer, quote: char, c: char) -> Result<(), AllocError>
-    ensures { OnOk result (out.new ≡ out.old ++ spec.escaped quote c) }
+#[tactic(auto, using(crate::proofs::Limits::written_then))]
+fn write_escaped(out: &mut LimitedBuffer, quote: char, c: char) -> Result<(), AllocError>
+    ensures { OnOk result (out.new ≡ written out.old (spec.escaped quote c)) }
 {
     if c == '\\' || c == quote {
         out.push('\\')?;
@@ -83,28 +86,33 @@ fn quote_of(text: &[char]) -> char
     }
 }
 
-fn write_text(out: &mut TextBuffer, text: &[char]) -> Result<(), AllocError>
-    ensures { OnOk result (out.new ≡ out.old ++ spec.text_repr text.now) }
+#[tactic(auto, using(crate::proofs::Limits::written_then))]
+fn write_text(out: &mut LimitedBuffer, text: &[char]) -> Result<(), AllocError>
+    ensures { OnOk result (out.new ≡ written out.old (spec.text_repr text.now)) }
 {
     let quote = quote_of(text);
     write_quoted(out, quote, text)
 }
 
 /// A text between quotes.
-fn write_quoted(out: &mut TextBuffer, quote: char, text: &[char]) -> Result<(), AllocError>
-    ensures { OnOk result (out.new ≡ out.old ++ spec.quoted quote text.now) }
+#[tactic(auto, using(crate::proofs::Limits::written_then))]
+fn write_quoted(out: &mut LimitedBuffer, quote: char, text: &[char]) -> Result<(), AllocError>
+    ensures { OnOk result (out.new ≡ written out.old (spec.quoted quote text.now)) }
 {
     out.push(quote)?;
     for c in text {
+        if out.is_full() {
+            return Ok(());
+        }
         write_escaped(out, quote, *c)?;
     }
     out.push(quote)
 }
 
 /// The step of a range, where it is not 1.
-#[tactic(auto, using(crate::proofs::Tables::step_shown))]
-fn write_step(out: &mut TextBuffer, step: i64) -> Result<(), AllocError>
-    ensures { OnOk result (out.new ≡ out.old ++ spec.step_repr step) }
+#[tactic(auto, using(crate::proofs::Tables::step_shown, crate::proofs::Limits::written_then, crate::proofs::Limits::written_none))]
+fn write_step(out: &mut LimitedBuffer, step: i64) -> Result<(), AllocError>
+    ensures { OnOk result (out.new ≡ written out.old (spec.step_repr step)) }
 {
     if step == 1 {
         return Ok(());
@@ -113,8 +121,9 @@ fn write_step(out: &mut TextBuffer, step: i64) -> Result<(), AllocError>
     write_signed(out, step)
 }
 
-fn write_range(out: &mut TextBuffer, start: i64, stop: i64, step: i64) -> Result<(), AllocError>
-    ensures { OnOk result (out.new ≡ out.old ++ spec.range_repr start stop step) }
+#[tactic(auto, using(crate::proofs::Limits::written_then))]
+fn write_range(out: &mut LimitedBuffer, start: i64, stop: i64, step: i64) -> Result<(), AllocError>
+    ensures { OnOk result (out.new ≡ written out.old (spec.range_repr start stop step)) }
 {
     out.append_ascii("range(")?;
     write_signed(out, start)?;
@@ -124,40 +133,45 @@ fn write_range(out: &mut TextBuffer, start: i64, stop: i64, step: i64) -> Result
     out.append_ascii(")")
 }
 
-fn write_function(out: &mut TextBuffer, names: &[Text], number: u16) -> Result<(), AllocError>
-    ensures { OnOk result (out.new ≡ out.old ++ spec.function_repr names.now number) }
+#[tactic(auto, using(crate::proofs::Limits::written_then))]
+fn write_function(out: &mut LimitedBuffer, names: &[Text], number: u16) -> Result<(), AllocError>
+    ensures { OnOk result (out.new ≡ written out.old (spec.function_repr names.now number)) }
 {
     out.append_ascii("<function ")?;
     out.append(name_of(names, number))?;
     out.append_ascii(">")
 }
 
-fn write_builtin(out: &mut TextBuffer, number: u8) -> Result<(), AllocError>
-    ensures { OnOk result (out.new ≡ out.old ++ spec.builtin_repr number) }
+#[tactic(auto, using(crate::proofs::Limits::written_then))]
+fn write_builtin(out: &mut LimitedBuffer, number: u8) -> Result<(), AllocError>
+    ensures { OnOk result (out.new ≡ written out.old (spec.builtin_repr number)) }
 {
     out.append_ascii("<built-in ")?;
     out.append_ascii(builtin_name(number))?;
     out.append_ascii(">")
 }
 
-fn write_class(out: &mut TextBuffer, number: u8) -> Result<(), AllocError>
-    ensures { OnOk result (out.new ≡ out.old ++ spec.class_repr number) }
+#[tactic(auto, using(crate::proofs::Limits::written_then))]
+fn write_class(out: &mut LimitedBuffer, number: u8) -> Result<(), AllocError>
+    ensures { OnOk result (out.new ≡ written out.old (spec.class_repr number)) }
 {
     out.append_ascii("<class '")?;
     out.append_ascii(class_name(number))?;
     out.append_ascii("'>")
 }
 
-fn write_generator(out: &mut TextBuffer, number: u32) -> Result<(), AllocError>
-    ensures { OnOk result (out.new ≡ out.old ++ spec.generator_repr number) }
+#[tactic(auto, using(crate::proofs::Limits::written_then))]
+fn write_generator(out: &mut LimitedBuffer, number: u32) -> Result<(), AllocError>
+    ensures { OnOk result (out.new ≡ written out.old (spec.generator_repr number)) }
 {
     out.append_ascii("<generator ")?;
     write_unsigned(out, number)?;
     out.append_ascii(">")
 }
 
-fn write_iterator(out: &mut TextBuffer, number: u32) -> Result<(), AllocError>
-    ensures { OnOk result (out.new ≡ out.old ++ spec.iterator_repr number) }
+#[tactic(auto, using(crate::proofs::Limits::written_then))]
+fn write_iterator(out: &mut LimitedBuffer, number: u32) -> Result<(), AllocError>
+    ensures { OnOk result (out.new ≡ written out.old (spec.iterator_repr number)) }
 {
     out.append_ascii("<iterator ")?;
     write_unsigned(out, number)?;
@@ -166,10 +180,13 @@ fn write_iterator(out: &mut TextBuffer, number: u32) -> Result<(), AllocError>
 
 /// The items of a tuple.
 #[cycle(repr)]
-fn write_items(out: &mut TextBuffer, items: &[Value], names: &[Text]) -> Result<(), AllocError>
-    ensures { OnOk result (out.new ≡ out.old ++ spec.joined (map (spec.printed names.now) items.now)) }
+fn write_items(out: &mut LimitedBuffer, items: &[Value], names: &[Text]) -> Result<(), AllocError>
+    ensures { OnOk result (out.new ≡ written out.old (spec.joined (map (spec.printed names.now) items.now))) }
 {
     for (i, item) in items.iter().enumerate() {
+        if out.is_full() {
+            return Ok(());
+        }
         item.write_repr(out, names)?;
         if i + 1 < items.len() {
             out.append_ascii(", ")?;
@@ -179,19 +196,21 @@ fn write_items(out: &mut TextBuffer, items: &[Value], names: &[Text]) -> Result<
 }
 
 /// The end of a tuple of so many items.
-fn write_tuple_end(out: &mut TextBuffer, count: usize) -> Result<(), AllocError>
-    ensures { OnOk result (out.new ≡ out.old ++ spec.tuple_end count) }
+fn write_tuple_end(out: &mut LimitedBuffer, count: usize) -> Result<(), AllocError>
+    ensures { OnOk result (out.new ≡ written out.old (spec.tuple_end count)) }
 {
     out.append_ascii(if count == 1 { ",)" } else { ")" })
 }
 
 impl Value {
-    ghost use Rattle.std.specs.Prelude.{◌≡◌, ◌++◌, OnOk};
+    ghost use Rattle.std.specs.Prelude.{◌≡◌, OnOk};
+    ghost use Rattle.mon_values.specs.Limits.{written};
     ghost use Rattle.mon_values.specs.Printing as spec;
 
     #[cycle(repr)]
-    fn write_repr(&self, out: &mut TextBuffer, names: &[Text]) -> Result<(), AllocError>
-        ensures { OnOk result (out.new ≡ out.old ++ spec.repr_of names.now self.now) }
+    #[tactic(auto, using(crate::proofs::Limits::written_then, crate::proofs::Limits::written_none))]
+    fn write_repr(&self, out: &mut LimitedBuffer, names: &[Text]) -> Result<(), AllocError>
+        ensures { OnOk result (out.new ≡ written out.old (spec.repr_of names.now self.now)) }
     {
         match self {
             Value::None => out.append_ascii("None"),
@@ -217,12 +236,14 @@ impl Value {
 }
 
 impl Exc {
-    ghost use Rattle.std.specs.Prelude.{◌≡◌, ◌++◌, OnOk};
+    ghost use Rattle.std.specs.Prelude.{◌≡◌, OnOk};
+    ghost use Rattle.mon_values.specs.Limits.{written};
     ghost use Rattle.mon_values.specs.Printing as spec;
 
     #[cycle(repr)]
-    fn write_repr(&self, out: &mut TextBuffer, names: &[Text]) -> Result<(), AllocError>
-        ensures { OnOk result (out.new ≡ out.old ++ spec.exc_repr_of names.now self.now) }
+    #[tactic(auto, using(crate::proofs::Limits::written_then, crate::proofs::Limits::written_none))]
+    fn write_repr(&self, out: &mut LimitedBuffer, names: &[Text]) -> Result<(), AllocError>
+        ensures { OnOk result (out.new ≡ written out.old (spec.exc_repr_of names.now self.now)) }
     {
         out.append_ascii(class_name(self.class))?;
         out.append_ascii("(")?;
@@ -234,11 +255,42 @@ impl Exc {
 }
 
 /// The `repr` of a value. The name of function k is the k-th of `names`, from 0, and empty where there is none.
+#[tactic(auto, using(crate::proofs::Limits::all_written))]
 pub fn repr(alloc: Global, v: &Value, names: &[Text]) -> Result<Text, AllocError>
     ensures { IfOk result (λ text. text ≡ spec.repr_of names.now v.now) }
 {
-    let mut out = TextBuffer::new(alloc);
+    let mut out = LimitedBuffer::new(alloc, usize::MAX);
     v.write_repr(&mut out, names)?;
+    out.into_text()
+}
+
+/// The first `limit` characters of the `repr` of a value, with `names` as there. Printing stops at them.
+#[tactic(auto, using(crate::proofs::Limits::front_written))]
+pub fn repr_front(
+    alloc: Global,
+    v: &Value,
+    names: &[Text],
+    limit: usize,
+) -> Result<Text, AllocError>
+    ensures { IfOk result (λ text. text ≡ take limit (spec.repr_of names.now v.now)) }
+{
+    let mut out = LimitedBuffer::new(alloc, limit);
+    v.write_repr(&mut out, names)?;
+    out.into_text()
+}
+
+/// The first `limit` characters of the `repr` of an exception, likewise.
+#[tactic(auto, using(crate::proofs::Limits::front_written))]
+pub fn exc_repr_front(
+    alloc: Global,
+    exc: &Exc,
+    names: &[Text],
+    limit: usize,
+) -> Result<Text, AllocError>
+    ensures { IfOk result (λ text. text ≡ take limit (spec.exc_repr_of names.now exc.now)) }
+{
+    let mut out = LimitedBuffer::new(alloc, limit);
+    exc.write_repr(&mut out, names)?;
     out.into_text()
 }
 

@@ -1,4 +1,4 @@
-ghost use Rattle.std.specs.Prelude.{◌≡◌, [], ◌∷◌, ◌++◌, length, ◌↔◌, IsTrue, IfOk, OnOk, OnErr};
+ghost use Rattle.std.specs.Prelude.{◌≡◌, [], ◌∷◌, ◌++◌, length, ◌<◌, ◌^◌, ◌↔◌, IsTrue, IfOk, OnOk, OnErr};
 
 use mon_shared::SharedItems;
 use std::alloc::{AllocError, Global};
@@ -122,10 +122,12 @@ impl TextBuffer {
         self.items.len()
     }
 
-    /// What was written, as a text.
-    pub fn into_text(self) -> Result<Text, AllocError>
-        ensures { IfOk result (λ t. t ≡ self) }
+    /// What was written, as a text, which keeps no more room than it needs.
+    pub fn into_text(mut self) -> Result<Text, AllocError>
+        ensures text { IfOk result (λ t. t ≡ self) }
+        ensures fits { length self < 2 ^ 63 }
     {
+        self.items.shrink_to_fit();
         Text::from_vec(self.items)
     }
 

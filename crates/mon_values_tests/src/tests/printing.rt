@@ -1,6 +1,6 @@
 use super::sample::{Sample, build, is_text, prints_as, raised};
 use mon_values::fault::Trouble;
-use mon_values::print::{exc_text_of, repr, text_of};
+use mon_values::print::{exc_repr_front, exc_text_of, repr, repr_front, text_of};
 use mon_values::text::Text;
 use mon_values::trouble::trouble_exc;
 use mon_values::value::Value;
@@ -223,5 +223,41 @@ fn a_function_prints_its_name(rt: HostRuntime) -> Result<(), Fail> {
     let alloc = rt.alloc();
     let printed = named_repr(alloc)?;
     assert!(rt; is_text(alloc, &printed, "<function g>")?);
+    Ok(())
+}
+
+/// A value, how many characters to print, and these.
+struct FrontRow(Sample, usize, &'static str);
+
+fn front_holds(alloc: Global, row: &FrontRow) -> Result<bool, AllocError> {
+    let v = build(alloc, &row.0)?;
+    let front = repr_front(alloc, &v, &[], row.1)?;
+    let same = match &v {
+        Value::Exc(exc) => is_text(alloc, &exc_repr_front(alloc, exc, &[], row.1)?, row.2)?,
+        _ => true,
+    };
+    Ok(same && is_text(alloc, &front, row.2)?)
+}
+
+static FRONT_ROWS: &[FrontRow] = &[
+    FrontRow(Sample::None, 0, ""),
+    FrontRow(Sample::None, 3, "Non"),
+    FrontRow(Sample::None, 4, "None"),
+    FrontRow(Sample::Int(-120), 40, "-120"),
+    FrontRow(Sample::Letters(4000), 4, "'aaa"),
+    FrontRow(Sample::Text("\n\n"), 4, "'\\n\\"),
+    FrontRow(Sample::Nones(4000), 10, "(None, Non"),
+    FrontRow(Sample::Nested(3), 7, "(((),),"),
+    FrontRow(Sample::Range(0, 5, 2), 12, "range(0, 5, "),
+    FrontRow(Sample::Bare(14), 11, "ValueError("),
+    FrontRow(Sample::Raised(16), 14, "OverflowError("),
+];
+
+#[test]
+fn the_front_of_a_value_ends_at_its_limit(rt: HostRuntime) -> Result<(), Fail> {
+    let alloc = rt.alloc();
+    for (i, row) in FRONT_ROWS.iter().enumerate() {
+        assert!(rt; front_holds(alloc, row)?, "row {i}");
+    }
     Ok(())
 }

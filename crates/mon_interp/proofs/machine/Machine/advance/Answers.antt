@@ -3,7 +3,7 @@ use Rattle.mon_words.specs.History.{base_in}
 use Rattle.mon_words.specs.Told.{Told}
 use Rattle.mon_words.specs.declared.history.Board.{Board}
 use Rattle.mon_interp.specs.Machines.{progress_of, StepOrStop}
-use Rattle.mon_interp.proofs.Going.{going_none, going_more, going_asked}
+use Rattle.mon_interp.proofs.Going.{going_none, going_more, going_asked, asked_retired}
 use Rattle.mon_interp.proofs.machine.Machine.advance.Goals as goal
 
 pub loop-turn-init : goal.loop-turn-init
@@ -47,4 +47,14 @@ returns-then-not-done-clause-run g c =
     let mid = progress_of c.loop-turn.self in
     let new = progress_of c.one_step.new.self in
     going_asked p c.loop-turn._turn c.args.steps (g.H.Handle.told c.args.handle.now) b d (progress_of c.args.self.now) mid new c.loop-turn.invariant.going c.loop-turn-test.true (sym c.goes.ensures ∙ c.if-not-goes.false)
+    (subst (λ (x : Bool). StepOrStop x p b d mid new) c.if-not-done.true c.in_ok-done.ensures.step)
+
+pub returns-then-not-done-clause-retired : goal.returns-then-not-done-clause-retired
+returns-then-not-done-clause-retired g c =
+    let p = c.args.program.now in
+    let b = g.H.Handle.told c.loop-turn.handle in
+    let d = g.H.Handle.told c.one_step.new.handle in
+    let mid = progress_of c.loop-turn.self in
+    let new = progress_of c.one_step.new.self in
+    asked_retired p c.loop-turn._turn (g.H.Handle.told c.args.handle.now) b d (progress_of c.args.self.now) mid new c.loop-turn.invariant.going
     (subst (λ (x : Bool). StepOrStop x p b d mid new) c.if-not-done.true c.in_ok-done.ensures.step)
