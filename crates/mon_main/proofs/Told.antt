@@ -8,8 +8,12 @@ use Rattle.mon_trees.specs.declared.tree.Module.{Module}
 use Rattle.mon_forms.specs.Plans.{plan_of}
 use Rattle.mon_outside.specs.Outside.{ReadsAll}
 use Rattle.mon_main.proofs.Limits.{plan_of-take, read_as-take, read_of}
-use Rattle.mon_main.specs.Answers.{program_in, program_of, says, TellsFile, HasProgram}
-use Rattle.mon_main.specs.Replies.{IsProgram}
+use Rattle.mon_forms.specs.declared.plan.Plan.{Plan}
+use Rattle.mon_forms.specs.declared.plan.PlanFault.{PlanFault}
+use Rattle.mon_main.specs.Answers.{Answer, Answers, program_in, program_of, says, ByPlan, HasProgram, Lists, RunsBy, Serially, Tells, TellsFile, TellsPlan}
+use Rattle.mon_main.specs.Commands.{Request}
+use Rattle.mon_main.specs.Commands as request
+use Rattle.mon_main.specs.Replies.{answer_of, IsProgram}
 use Rattle.mon_main.specs.Sources.{fault_line, misspelled_line, underived_line, ModuleOf}
 use Rattle.mon_main.specs.declared.reply.Compiled.{Compiled}
 use Rattle.mon_main.specs.declared.reply.Reply.{Reply}
@@ -53,3 +57,27 @@ source_due source_fault.Memory held read line reading m h r e = absurd (no_line 
 pub has_program : (held : Option (List ℕ)) (read : List ℕ) (m : Module) (p : Parts) → ReadsAll held [] read → ReadAs read (Parsed m) → program_of m ≡ Ok p → HasProgram held
 has_program None read m p r d is = tt
 has_program (Some text) read m p r d is = (m, p, found text read (Parsed m) r d, is)
+
+due_program : (m : Module) (held : Option (List ℕ)) (read : List ℕ) (r : Result Compiled Reply) → ReadsAll held [] read → ReadAs read (Parsed m) → IsProgram (program_of m) r → IfOk r (λ c. HasProgram held)
+due_program m held read (Ok c) reads is due = has_program held read m c.program reads is due
+due_program m held read (Err reply) reads is due = tt
+
+pub found_program : {E : Type 0} (m : Module) (held : Option (List ℕ)) (read : List ℕ) (r : Result (Result Compiled Reply) E) → ReadsAll held [] read → ReadAs read (Parsed m) → IfOk r (IsProgram (program_of m)) → IfOk r (λ x. IfOk x (λ c. HasProgram held))
+found_program {E} m held read (Ok r) reads is due = due_program m held read r reads is due
+found_program {E} m held read (Err e) reads is due = tt
+
+-- what a program is answered is due to what FILE is read as
+pub replay_due : {E : Type 0} (c : Compiled) (reading : Reading) (held told : Option (List ℕ)) (plan read : List ℕ) (r : Result Reply E) → TellsPlan (program_in reading) held plan → program_in reading ≡ Ok c.program → told ≡ held → ReadsAll told [] read
+    → IfOk r (λ x. ByPlan Serially c.program (plan_of c.program read) (answer_of x).status (answer_of x).text) → IfOk r (λ x. RunsBy Serially (program_in reading) plan (answer_of x).status (answer_of x).text)
+replay_due {E} c reading held told plan read r tells is same reads due =
+    let is_told : told ≡ Some plan = same ∙ subst (λ (o : Result Parts Answer). TellsPlan o held plan) is tells in
+    let at_program : IfOk r (λ x. RunsBy Serially (Ok c.program) plan (answer_of x).status (answer_of x).text) =
+    subst (λ (q : Result Plan PlanFault). IfOk r (λ x. ByPlan Serially c.program q (answer_of x).status (answer_of x).text)) (plan_read c.program told plan read is_told reads) due in
+    subst (λ (o : Result Parts Answer). IfOk r (λ x. RunsBy Serially o plan (answer_of x).status (answer_of x).text)) (sym is) at_program
+
+-- a listing is due to what the words ask for
+pub dis_due : {E : Type 0} (asked : Option Request) (file : List ℕ) (holds : List ℕ → Option (List ℕ)) (reading : Reading) (plan : List ℕ) (r : Result Reply E) → asked ≡ Some (request.Dis file) → Tells asked holds reading plan
+    → (Tells (Some (request.Dis file)) holds reading plan → IfOk r (λ x. Lists (program_in reading) (answer_of x).status (answer_of x).text)) → IfOk r (λ x. Answers asked reading plan (answer_of x).status (answer_of x).text)
+dis_due {E} asked file holds reading plan r is tells due =
+    let at_request : Tells (Some (request.Dis file)) holds reading plan = subst (λ (a : Option Request). Tells a holds reading plan) is tells in
+    subst (λ (a : Option Request). IfOk r (λ x. Answers a reading plan (answer_of x).status (answer_of x).text)) (sym is) (due at_request)

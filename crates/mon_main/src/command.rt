@@ -88,7 +88,10 @@ pub fn requested(words: &[String]) -> Option<Request<'_>>
 fn named(word: &str) -> Option<Command>
     ensures { result ≡ spec.named word.now }
 {
-    COMMANDS.iter().copied().find(|command| command.word() == word)
+    COMMANDS
+        .iter()
+        .copied()
+        .find(|command| command.word() == word)
 }
 
 // A command with what it is given.
@@ -104,7 +107,9 @@ fn given(command: Command, operands: &[String]) -> Option<Request<'_>>
             file: name_in(file)?,
             plan: name_in(plan)?,
         }),
-        (Command::Dis, [file]) => Some(Request::Dis { file: name_in(file)? }),
+        (Command::Dis, [file]) => Some(Request::Dis {
+            file: name_in(file)?,
+        }),
         (Command::Gen, [number]) => Some(Request::Gen {
             number: number_in(number)?,
         }),

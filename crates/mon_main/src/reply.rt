@@ -106,7 +106,12 @@ fn replay<S: Store>(
         Err(reply) => Ok(reply),
         Ok(compiled) => {
             let text = contents(alloc, plan, store)?;
-            replayed(alloc, &compiled.program, compiled.bases.as_slice(), text.as_slice())
+            replayed(
+                alloc,
+                &compiled.program,
+                compiled.bases.as_slice(),
+                text.as_slice(),
+            )
         }
     }
 }
@@ -119,7 +124,11 @@ fn dis<S: Store>(alloc: Global, file: &str, store: &mut S) -> Result<Reply, Repl
 {
     match program_of(alloc, file, store)? {
         Err(reply) => Ok(reply),
-        Ok(compiled) => Ok(Reply::Text(print_dis(alloc, &compiled.program, compiled.bases.as_slice())?)),
+        Ok(compiled) => Ok(Reply::Text(print_dis(
+            alloc,
+            &compiled.program,
+            compiled.bases.as_slice(),
+        )?)),
     }
 }
 

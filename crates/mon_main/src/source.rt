@@ -95,8 +95,10 @@ fn misspelled_line(alloc: Global, fault: LexFault) -> Result<String, AllocError>
 pub fn plan_line(alloc: Global, line: u32, kind: PlanKind) -> Result<String, AllocError>
     ensures { IfOk result (λ text. string_bytes text ≡ spec.plan_line line kind) }
 {
-    let kind = kind_word(kind);
-    format!(in alloc; "plan {line} {kind}\n")
+    let mut text = format!(in alloc; "plan {line} ")?;
+    text.push_str(kind_word(kind))?;
+    text.push_str("\n")?;
+    Ok(text)
 }
 
 /// What a report of faults calls this kind.
