@@ -11,14 +11,20 @@ const TEN_THREADS: &str =
 /// Faulty plans, and the lines that say so.
 const FAULTS: [(&str, &str); 10] = [
     (TEN_THREADS, "plan 10 TooMany\n"),
-    ("steps 200000\nthread f 1\nthread f 1\nthread f 1\n", "plan 4 TooMany\n"),
+    (
+        "steps 200000\nthread f 1\nthread f 1\nthread f 1\n",
+        "plan 4 TooMany\n",
+    ),
     ("steps 10\nthread f\n", "plan 2 Number\n"),
     ("steps 10\nthread zz 1\n", "plan 2 Name\n"),
     ("steps 200001\n", "plan 1 Number\n"),
     ("", "plan 1 Order\n"),
     ("# nothing\n\nstep 1\n", "plan 3 Word\n"),
     ("thread f 1\n", "plan 1 Order\n"),
-    ("steps 10\nbefore\nuse_tool_id 1 t\nset_events 1 LINES\n", "plan 4 Name\n"),
+    (
+        "steps 10\nbefore\nuse_tool_id 1 t\nset_events 1 LINES\n",
+        "plan 4 Name\n",
+    ),
     ("steps 10\nschedule\nturn 0 1\n", "plan 3 Number\n"),
 ];
 
@@ -26,7 +32,10 @@ const FAULTS: [(&str, &str); 10] = [
 fn a_faulty_plan_is_said(rt: HostRuntime) -> Result<(), Fail> {
     assert_eq!(rt; Status::Plan.code(), 4);
     for (plan, line) in FAULTS {
-        assert!(rt; replays_to(rt.alloc(), LOOP, plan, Status::Plan, line)?, "of {plan:?}");
+        assert!(rt;
+            replays_to(rt.alloc(), LOOP, plan, Status::Plan, line)?,
+            "of {plan:?}"
+        );
     }
     Ok(())
 }
