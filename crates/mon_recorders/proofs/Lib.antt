@@ -3,3 +3,4 @@ pub mod Spans
 pub mod Examples
 pub mod Keeping
 pub mod RowExamples
+pub mod Counted

@@ -7,3 +7,4 @@ pub mod Examples
 pub mod Kept
 pub mod Rows
 pub mod RowExamples
+pub mod RowOrder

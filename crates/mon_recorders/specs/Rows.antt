@@ -2,8 +2,11 @@
 use Rattle.std.specs.Prelude.{ℕ, ◌+◌, ◌==◌, Bool, true, false, ◌&&◌, cond, List, [], ◌∷◌, ◌++◌, map, filter, fold}
 use Rattle.std.specs.List.{flat_map}
 use Rattle.std.specs.declared.cmp.Ordering.{Ordering}
-use Rattle.std.specs.Ordering.{match_ordering, ordering_then, nat_cmp}
+use Rattle.std.specs.Option.{unwrap_or}
+use Rattle.std.specs.Ordering.{ordering_then, nat_cmp, is_eq}
 use Rattle.std.specs.Cmp.Lexicographic.{slice_cmp}
+use Rattle.std.specs.BTreeMap.{insert_entry}
+use Rattle.std.specs.Map.{lookup}
 use Rattle.mon_events.specs.declared.event.Event.{Event}
 use Rattle.mon_recorders.specs.declared.record.Record.{Record}
 use Rattle.mon_recorders.specs.declared.report.ThreadReport.{ThreadReport}
@@ -29,8 +32,7 @@ row_cmp a b = ordering_then (nat_cmp a.code b.code) (ordering_then (slice_cmp na
 
 -- one more of a key, among keys in order with their counts
 abbrev pub count_one : List (Row × ℕ) → Row → List (Row × ℕ)
-count_one [] key = (key, 1) ∷ []
-count_one (c ∷ cs) key = match_ordering (row_cmp key c.0) ((key, 1) ∷ c ∷ cs) ((c.0, c.1 + 1) ∷ cs) (c ∷ count_one cs key)
+count_one counts key = insert_entry row_cmp counts key (unwrap_or (lookup (λ k. is_eq (row_cmp key k)) counts) 0 + 1)
 
 -- each key once, in order, with its count
 abbrev pub counted : List Row → List (Row × ℕ)

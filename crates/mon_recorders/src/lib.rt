@@ -3,6 +3,7 @@
 
 mod delivery;
 mod happening;
+mod key;
 mod laws;
 mod record;
 mod records;
@@ -17,4 +18,4 @@ pub use laws::{
 pub use record::{Cut, Disabled, Record};
 pub use records::Records;
 pub use report::{Outcome, ThreadReport};
-pub use rows::{Counting, Row};
+pub use rows::{Counting, Row, branches, calls, coverage, lines};
