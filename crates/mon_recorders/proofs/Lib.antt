@@ -2,3 +2,5 @@ pub mod Folds
 pub mod Spans
 pub mod Examples
 pub mod Keeping
+pub mod RowExamples
+pub mod Counted

@@ -5,3 +5,6 @@ pub mod Laws
 pub mod Proper
 pub mod Examples
 pub mod Kept
+pub mod Rows
+pub mod RowExamples
+pub mod RowOrder
