@@ -2,3 +2,4 @@ pub mod Folds
 pub mod Spans
 pub mod Examples
 pub mod Keeping
+pub mod RowExamples

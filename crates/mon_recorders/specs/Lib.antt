@@ -5,3 +5,5 @@ pub mod Laws
 pub mod Proper
 pub mod Examples
 pub mod Kept
+pub mod Rows
+pub mod RowExamples

@@ -1,6 +1,7 @@
 //! Laws of readings.
 
 ghost use Rattle.mon_recorders.specs.Examples.{HeardInTurn, DisabledInTurn, MarkedInTurn};
+ghost use Rattle.mon_recorders.specs.RowExamples.{LinesOfAllThreads, CallsByName, BranchesBySide, LinesCovered};
 ghost use Rattle.mon_recorders.specs.Laws.{OneMore, Joined, ToldByPlace};
 
 /// A law: a reading goes on by a step.
@@ -24,4 +25,12 @@ pub fn worked_deliveries()
 /// A law: what is told of a disable is known from its location, slot and tool, so that it can be told from a history.
 pub fn disables_are_told_by_place()
     ensures { ToldByPlace }
+{}
+
+/// A law: rows count the records of one tool over two threads, by code, then by what is called, then by the numbers.
+pub fn worked_rows()
+    ensures lines { LinesOfAllThreads }
+    ensures calls { CallsByName }
+    ensures branches { BranchesBySide }
+    ensures coverage { LinesCovered }
 {}
