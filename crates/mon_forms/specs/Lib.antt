@@ -8,4 +8,5 @@ pub mod Answers
 pub mod Texts
 pub mod Opcodes
 pub mod Listing
+pub mod Rows
 pub mod Reports

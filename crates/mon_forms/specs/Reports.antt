@@ -1,4 +1,4 @@
--- The text of a report, as bytes: the calls of the journal, and each thread by its number.
+-- The text of a report, as bytes: the calls of the journal, each thread by its number, and the rows of the reports that are asked for.
 use Rattle.std.specs.Prelude.{ℕ, ◌==◌, ◌^◌, nat_le, if◌then◌else◌, List, [], ◌∷◌, ◌++◌, Option, Some, None, slice_get, codes, encode_utf8_all, map}
 use Rattle.std.specs.Fmt.{decimal, signed_decimal}
 use Rattle.std.specs.List.{flat_map, filter}
@@ -18,6 +18,7 @@ use Rattle.mon_values.specs.declared.value.Exc.{Exc}
 use Rattle.mon_values.specs.declared.value.Value
 use Rattle.mon_forms.specs.Calls.{call_word, operands_of, no_parts}
 use Rattle.mon_forms.specs.Operands.{policy_word}
+use Rattle.mon_forms.specs.Rows.{reports_text}
 use Rattle.mon_forms.specs.Texts.{each_from, code_text, number_text, numbers_text, value_text}
 use Rattle.mon_forms.specs.declared.calls.CallKind.{CallKind}
 use Rattle.mon_forms.specs.declared.calls.CallParts.{CallParts}
@@ -208,6 +209,6 @@ thread_text p starts number r = thread_line p starts number ++ outs_text p r.pri
 abbrev pub threads_text : Parts → List Start → List ThreadReport → List ℕ
 threads_text p starts threads = each_from (thread_text p starts) 0 threads
 
--- without the reports that a plan asks for
+-- the calls, the threads, and the reports that the plan asks for
 abbrev pub report_text : Parts → Plan → Report → List ℕ
-report_text p plan r = journal_text p r.journal.lines ++ threads_text p plan.workload.threads r.threads
+report_text p plan r = journal_text p r.journal.lines ++ threads_text p plan.workload.threads r.threads ++ reports_text p r.threads plan.reports

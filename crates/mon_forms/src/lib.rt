@@ -13,6 +13,7 @@ mod operands;
 mod plan;
 mod read;
 mod report;
+mod rows;
 mod sets;
 mod telling;
 mod texts;

@@ -1,8 +1,10 @@
-ghost use Rattle.std.specs.Prelude.{◌≡◌, ◌++◌, [], IfOk, OnOk, string_bytes};
+ghost use Rattle.std.specs.Prelude.{◌≡◌, ◌++◌, IfOk, OnOk, string_bytes};
 ghost use Rattle.mon_forms.specs.Reports as spec;
+ghost use Rattle.mon_forms.specs.Rows.{reports_text};
 
 use crate::journal::write_lines;
-use crate::plan::Plan;
+use crate::plan::{Plan, ReportLine};
+use crate::rows::write_reports;
 use crate::texts::{PrintFault, code_names};
 use crate::threads::write_threads;
 use mon_code::Program;
@@ -31,20 +33,34 @@ fn write_calls(
     write_lines(out, names.as_slice(), journal.as_slice())
 }
 
-/// The text of a report, as UTF-8: a line for each call of the journal, then each thread by its number. The reports that a plan
-/// asks for are not printed yet, so it asks for none. PrintFault: there is not enough memory.
+fn write_asked(
+    alloc: Global,
+    out: &mut String,
+    program: &Program,
+    threads: &[ThreadReport],
+    asked: &[ReportLine],
+) -> Result<(), AllocError>
+    ensures { OnOk result (string_bytes out.new ≡ string_bytes out.old ++ reports_text program.now threads.now asked.now) }
+{
+    let names = code_names(alloc, program)?;
+    write_reports(alloc, out, names.as_slice(), threads, asked)
+}
+
+/// The text of a report, as UTF-8: a line for each call of the journal, then each thread by its number, then the rows of each
+/// report that the plan asks for, over all threads. PrintFault: there is not enough memory.
 pub fn print_report(
     alloc: Global,
     program: &Program,
     plan: &Plan,
     report: &Report,
 ) -> Result<Vec<u8>, PrintFault>
-    requires { plan.now.reports ≡ [] }
     ensures { IfOk result (λ v. v.items ≡ spec.report_text program.now plan.now report.now) }
 {
     let mut out = String::new(alloc);
     write_calls(alloc, &mut out, program, &report.journal)?;
     let starts = &plan.workload.threads;
-    write_threads(alloc, &mut out, program, starts, report.threads.as_slice())?;
+    let threads = report.threads.as_slice();
+    write_threads(alloc, &mut out, program, starts, threads)?;
+    write_asked(alloc, &mut out, program, threads, plan.reports.as_slice())?;
     Ok(out.into_bytes())
 }

@@ -9,7 +9,15 @@ use mon_values::text::Text;
 use mon_values::value::Value;
 use sqlite_items::Items;
 
-const PLAN: &[u8] = b"steps 9\nthread f 1\nthread two 1 2\n";
+const PLAN: &[u8] = b"steps 9
+thread f 1
+thread two 1 2
+report coverage 1
+report lines 1
+report calls 2
+report branches 1
+report coverage 3
+";
 
 const REPORTED: &[u8] = b"journal before use_tool_id 1 cov = None
 journal before set_events 1 CALL|LINE = None at 0 0
@@ -36,7 +44,15 @@ disable 1 1 LINE f 2
 disable 7 5 PY_START two 0
 end 8 returned (1, <function two>)
 thread 1 two
+rec 2 1 LINE two 8
+rec 4 1 LINE f 2
 end 9 limit
+coverage 1 f 2
+coverage 1 two 8
+lines 1 f 2 2
+lines 1 two 8 1
+calls 2 none <built-in print> 1
+branches 1 f 4 16 1
 ";
 
 fn line(
@@ -172,13 +188,16 @@ fn cut(alloc: Global, value: &Value) -> Result<Cut, AllocError> {
     Cut::of(alloc, value, &[])
 }
 
+fn line_of(code: u16, line: u32) -> Happening {
+    happening(Event::Line, code, line, 0, Cut::absent(), Cut::absent())
+}
+
 fn records(alloc: Global) -> Result<Records, AllocError> {
     let (len, print) = (Value::Builtin(1), Value::Builtin(0));
     let long = exception(alloc, "an argument of some length here")?;
     let text = Value::Text(name(alloc, "ab")?);
     let mut records = Records::new(alloc);
-    let line = happening(Event::Line, 0, 2, 0, Cut::absent(), Cut::absent());
-    records.push_for_tools(1, &line, 2)?;
+    records.push_for_tools(1, &line_of(0, 2), 2)?;
     let gave = happening(
         Event::CReturn,
         2,
@@ -236,6 +255,9 @@ fn threads(alloc: Global) -> Result<Items<ThreadReport>, AllocError> {
     })?;
     let pair = vec![in alloc; Value::Int(1), Value::Function(2)]?;
     let pair = SharedItems::from_vec(pair)?;
+    let mut later = Records::new(alloc);
+    later.push_for_tools(2, &line_of(2, 8), 2)?;
+    later.push_for_tools(4, &line_of(0, 2), 2)?;
     let mut threads = Items::new(alloc);
     threads.push(ThreadReport {
         printed,
@@ -246,7 +268,7 @@ fn threads(alloc: Global) -> Result<Items<ThreadReport>, AllocError> {
     })?;
     threads.push(ThreadReport {
         printed: Items::new(alloc),
-        records: Records::new(alloc),
+        records: later,
         disables: Items::new(alloc),
         steps: 9,
         outcome: Outcome::Limit,
@@ -255,12 +277,12 @@ fn threads(alloc: Global) -> Result<Items<ThreadReport>, AllocError> {
 }
 
 #[test]
-fn a_report_tells_the_calls_and_then_the_threads(rt: HostRuntime) -> Result<(), Fail> {
+fn a_report_tells_the_calls_then_the_threads_and_then_the_rows(
+    rt: HostRuntime,
+) -> Result<(), Fail> {
     let alloc = rt.alloc();
     let program = program(alloc)?;
     let plan = read_plan(alloc, PLAN, &program)?;
-    let asks_for_none = plan.reports.is_empty();
-    assert!(rt; asks_for_none);
     let report = Report {
         journal: journal(alloc)?,
         threads: threads(alloc)?,
