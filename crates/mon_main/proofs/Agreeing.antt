@@ -4,14 +4,14 @@ use Rattle.std.specs.Prelude.{Option, Some, None, Result}
 use Rattle.mon_code.specs.Programs.{Parts}
 use Rattle.mon_forms.specs.Plans.{plan_of}
 use Rattle.mon_forms.specs.Reports.{report_text, journal_text, threads_text}
+use Rattle.mon_forms.specs.Rows.{reports_text}
 use Rattle.mon_forms.specs.declared.plan.Plan.{Plan}
 use Rattle.mon_forms.specs.declared.plan.PlanFault.{PlanFault}
-use Rattle.mon_forms.specs.declared.plan.ReportLine.{ReportLine}
 use Rattle.mon_forms.specs.declared.report.Report.{Report}
 use Rattle.mon_parser.specs.Texts.{Reading}
 use Rattle.mon_history.specs.declared.journal.JournalLine.{JournalLine}
 use Rattle.mon_recorders.specs.declared.report.ThreadReport.{ThreadReport}
-use Rattle.mon_main.specs.Answers.{Answer, Answers, Is, Lists, OfPlan, ByPlan, Prints, Runs, RunsBy, Serially, program_in}
+use Rattle.mon_main.specs.Answers.{Answer, Answers, Is, Lists, ByPlan, Prints, Runs, RunsBy, Serially, program_in}
 use Rattle.mon_main.specs.Commands.{Request, request_of, unless_threaded}
 use Rattle.mon_main.specs.Commands as request
 use Rattle.mon_main.specs.Laws.{StatusesAgree, TextsAgree}
@@ -20,12 +20,8 @@ use Rattle.mon_main.specs.declared.status.Status.{Status}
 is_status : (a : Answer) (status other : Status) (text more : List ℕ) → Is a status text → Is a other more → status ≡ other
 is_status a status other text more h k = h.0 ∙ sym k.0
 
-plan_status : (R : Runs) (p : Parts) (plan : Plan) (lines : List ReportLine) (status other : Status) (text more : List ℕ) → OfPlan R p plan lines status text → OfPlan R p plan lines other more → status ≡ other
-plan_status R p plan [] status other text more h k = h.0 ∙ sym k.0
-plan_status R p plan (line ∷ lines) status other text more h k = h.0 ∙ sym k.0
-
 by_status : (R : Runs) (p : Parts) (plan : Result Plan PlanFault) (status other : Status) (text more : List ℕ) → ByPlan R p plan status text → ByPlan R p plan other more → status ≡ other
-by_status R p (Ok plan) status other text more h k = plan_status R p plan plan.reports status other text more h k
+by_status R p (Ok plan) status other text more h k = h.0 ∙ sym k.0
 by_status R p (Err fault) status other text more h k = h.0 ∙ sym k.0
 
 run_status : (R : Runs) (due : Result Parts Answer) (plan : List ℕ) (status other : Status) (text more : List ℕ) → RunsBy R due plan status text → RunsBy R due plan other more → status ≡ other
@@ -46,16 +42,12 @@ statuses_agree (Some (request.Gen number)) reading plan status other text more h
 -- the print of a serial report shows what the definition fixes
 prints_once : (p : Parts) (plan : Plan) (text more : List ℕ) → Prints Serially p plan text → Prints Serially p plan more → text ≡ more
 prints_once p plan text more h k =
-    let print = λ (lines : List JournalLine) (threads : List ThreadReport). journal_text p lines ++ threads_text p plan.workload.threads threads in
+    let print = λ (lines : List JournalLine) (threads : List ThreadReport). journal_text p lines ++ threads_text p plan.workload.threads threads ++ reports_text p threads plan.reports in
     let shown : report_text p plan h.report ≡ report_text p plan k.report = ap₂ print (h.runs.serial.journal ∙ sym k.runs.serial.journal) (h.runs.serial.threads ∙ sym k.runs.serial.threads) in
     h.is ∙ shown ∙ sym k.is
 
-plan_text : (p : Parts) (plan : Plan) (lines : List ReportLine) (status other : Status) (text more : List ℕ) → OfPlan Serially p plan lines status text → OfPlan Serially p plan lines other more → text ≡ more
-plan_text p plan [] status other text more h k = prints_once p plan text more h.1 k.1
-plan_text p plan (line ∷ lines) status other text more h k = h.1 ∙ sym k.1
-
 by_text : (p : Parts) (plan : Result Plan PlanFault) (status other : Status) (text more : List ℕ) → ByPlan Serially p plan status text → ByPlan Serially p plan other more → text ≡ more
-by_text p (Ok plan) status other text more h k = plan_text p plan plan.reports status other text more h k
+by_text p (Ok plan) status other text more h k = prints_once p plan text more h.1 k.1
 by_text p (Err fault) status other text more h k = h.1 ∙ sym k.1
 
 run_text : (due : Result Parts Answer) (plan : List ℕ) (status other : Status) (text more : List ℕ) → RunsBy Serially due plan status text → RunsBy Serially due plan other more → text ≡ more

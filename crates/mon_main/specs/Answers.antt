@@ -12,7 +12,6 @@ use Rattle.mon_forms.specs.Listing.{listing}
 use Rattle.mon_forms.specs.Plans.{plan_of}
 use Rattle.mon_forms.specs.Reports.{report_text}
 use Rattle.mon_forms.specs.declared.plan.Plan.{Plan}
-use Rattle.mon_forms.specs.declared.plan.ReportLine.{ReportLine}
 use Rattle.mon_forms.specs.declared.plan.PlanFault.{PlanFault}
 use Rattle.mon_forms.specs.declared.plan.PlanFault.TheVariants as plan_fault
 use Rattle.mon_forms.specs.declared.report.Report.{Report}
@@ -85,14 +84,9 @@ pub record Prints (R : Runs) (p : Parts) (plan : Plan) (text : List ℕ) : Type 
   pub runs : R p plan report
   pub is : text ≡ report_text p plan report
 
--- a plan that asks for no report behind the threads; others are not built yet
-abbrev pub OfPlan : Runs → Parts → Plan → List ReportLine → Status → List ℕ → Type 0
-OfPlan R p plan [] status text = (status ≡ Status.Done) × Prints R p plan text
-OfPlan R p plan (line ∷ lines) status text = Is (says Status.NotBuilt not_built_line) status text
-
 abbrev pub ByPlan : Runs → Parts → Result Plan PlanFault → Status → List ℕ → Type 0
 ByPlan R p (Err fault) status text = Is (says Status.Plan (fault_of_plan fault)) status text
-ByPlan R p (Ok plan) status text = OfPlan R p plan plan.reports status text
+ByPlan R p (Ok plan) status text = (status ≡ Status.Done) × Prints R p plan text
 
 -- a program by the text of a plan
 abbrev pub RunsBy : Runs → Result Parts Answer → List ℕ → Status → List ℕ → Type 0

@@ -189,7 +189,6 @@ fn replayed(
     ensures fault { IfErr result (λ f. f ≡ ReplyFault.Memory) }
 {
     match read_plan(alloc, text, program) {
-        Ok(plan) if !plan.reports.is_empty() => Ok(Reply::NotBuilt),
         Ok(plan) => {
             let report = serial(alloc, program, bases, &plan)?;
             Ok(Reply::Text(print_report(alloc, program, &plan, &report)?))

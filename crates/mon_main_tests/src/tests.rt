@@ -276,13 +276,6 @@ fn a_program_that_is_not_built_is_said(rt: HostRuntime) -> Result<(), Fail> {
     Ok(())
 }
 
-#[test]
-fn a_plan_that_is_not_built_is_said(rt: HostRuntime) -> Result<(), Fail> {
-    let alloc = rt.alloc();
-    assert!(rt; is_not_built(alloc, LOOP, "steps 1\nthread f 3\nreport lines 1\n")?);
-    Ok(())
-}
-
 /// Whether the loop, under a plan of so many steps, is reported so.
 fn loop_ends(alloc: Global, steps: &str, records: &str, end: &str) -> Result<bool, AllocError> {
     let text = plan(alloc, steps, "f 3")?;

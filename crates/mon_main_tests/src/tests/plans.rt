@@ -1,6 +1,6 @@
 //! Plans that are faulty, and plans of several threads and scripts.
 
-use super::{LOOP, replays_to};
+use super::{LOOP, replayed, replays_to};
 use mon_main::Status;
 use std::alloc::Global;
 use std::test::Fail;
@@ -75,5 +75,20 @@ fn a_plan_without_threads_is_its_calls(rt: HostRuntime) -> Result<(), Fail> {
     let want =
         "journal before get_tool 3 = None\njournal before use_tool_id 6 t = BadTool(6)\njournal script 0 restart_events = None at\n";
     assert!(rt; runs_to(rt.alloc(), plan, want)?);
+    Ok(())
+}
+
+/// Two threads that keep the lines of the loop, and what the plan asks to be counted of them.
+const COUNTED: &str =
+    "steps 100\nthread f 1\nthread f 0\nbefore\nuse_tool_id 2 spy\nregister_callback 2 LINE keep\nset_events 2 LINE\nreport coverage 2\nreport lines 2\nreport calls 2\nreport lines 1\n";
+
+const ROWS: &str =
+    "coverage 2 f 2 3 4 5\nlines 2 f 2 2\nlines 2 f 3 3\nlines 2 f 4 1\nlines 2 f 5 2\n";
+
+#[test]
+fn rows_are_counted_over_all_threads(rt: HostRuntime) -> Result<(), Fail> {
+    let (status, written) = replayed(rt.alloc(), LOOP, COUNTED)?;
+    assert_eq!(rt; status, Status::Done);
+    assert!(rt; written.as_slice().ends_with(ROWS.as_bytes()));
     Ok(())
 }
