@@ -1,5 +1,0 @@
-//! The serial run of whole plans.
-#![tactic(auto)]
-
-#[cfg(test)]
-mod tests;
