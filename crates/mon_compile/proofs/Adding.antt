@@ -9,7 +9,7 @@ use Rattle.mon_trees.specs.declared.tree.ModuleItem.TheVariants as item
 use Rattle.mon_compile.specs.declared.emitter.EmitFault.{EmitFault}
 use Rattle.mon_compile.specs.declared.emitter.EmitFault.TheVariants as emission
 use Rattle.mon_compile.specs.declared.fault.CompileFault.{CompileFault}
-use Rattle.mon_compile.specs.declared.fault.CompileFault.TheVariants.{DuplicateName, Misplaced, TooLarge, NotBuilt, TooManyLocations, Memory}
+use Rattle.mon_compile.specs.declared.fault.CompileFault.TheVariants.{DuplicateName, Misplaced, TooLarge, TooManyLocations, Memory}
 use Rattle.mon_compile.specs.declared.program.Listing.{Listing}
 use Rattle.mon_compile.specs.Answered.{AnswersCode, AddsCodes, ListsCodes, fault_of_emission}
 use Rattle.mon_compile.specs.Faults.{FewLocals, most_locations}
@@ -54,7 +54,6 @@ listed : (fault : CompileFault) (old new : Listing) (fs all : List Function) →
 listed (DuplicateName n) old new fs all h full = absurd full
 listed (Misplaced n) old new fs all h full = absurd full
 listed (TooLarge n) old new fs all h full = absurd full
-listed (NotBuilt n) old new fs all h full = absurd full
 listed TooManyLocations old new fs all h full = omega (arith, h, full)
 listed Memory old new fs all h full = tt
 

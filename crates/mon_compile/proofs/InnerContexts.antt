@@ -3,18 +3,17 @@ use Rattle.std.proofs.Common.{◌≡◌, ◌∷◌, map, refl, ap, ◌∙◌}
 use Rattle.mon_compile.specs.declared.assembly.Label.{Label}
 use Rattle.mon_compile.specs.declared.assembly.Label.TheVariants.{At}
 use Rattle.mon_compile.specs.Contexts.{Entry, Except, Raised, Returning, Context}
-use Rattle.mon_compile.specs.Statements.{statement_code, handler_code, block}
+use Rattle.mon_compile.specs.Statements.{handler_code}
 use Rattle.mon_compile.specs.Moved.{Fixes, moved_entry, moved_context}
 use Rattle.mon_compile.specs.InnerContexts.{Closed, Around, While, For, Try, ExceptAs, Finally, entry_of, IsAround, AllHaveLabels, SameLength, ClausesSameLength, ContextsAreClosed}
-use Rattle.mon_compile.proofs.StatementLabels.{guarded_carrying}
-use Rattle.mon_compile.proofs.Labels.{body_carries, clauses_carry}
+use Rattle.mon_compile.proofs.Labels.{body_carries, clauses_carry, guarded_carries}
 use Rattle.mon_compile.proofs.ContextDepths.{same_length}
 use Rattle.mon_compile.proofs.StatementDepths.{clauses_length, closed_entry}
 
 pub all_have_labels : AllHaveLabels
 all_have_labels locals body = record {
   block = λ g. body_carries g locals body;
-  guarded_block = λ clauses g. guarded_carrying g (block (map (statement_code locals) body)) (map (handler_code locals) clauses) (body_carries g locals body) (clauses_carry g locals clauses);
+  guarded_block = λ clauses g. guarded_carries g locals body clauses;
 }
 
 moved_label : (e : Around) → IsAround e → (c : Context) → Closed c → (g : Label → Label) → Fixes g → (l : Label) → moved_entry g (entry_of e c l) ≡ entry_of e c (g l)

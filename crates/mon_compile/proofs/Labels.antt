@@ -13,10 +13,10 @@ use Rattle.mon_trees.specs.declared.tree.Statement.TheFolds.{ind-Statement, ind-
 use Rattle.mon_trees.specs.declared.tree.Handler.{Handler}
 use Rattle.mon_compile.specs.declared.assembly.Label.{Label}
 use Rattle.mon_compile.specs.Expressions.{Coder, Locals, expression_code, constant_code, number_of_local, binary_number}
-use Rattle.mon_compile.specs.Statements.{Scheme, ClauseScheme, block, is_lone_text, lone_code, coder_of, simple_code, statement_step, clause_code, handler_step, statement_code, handler_code}
+use Rattle.mon_compile.specs.Statements.{Scheme, ClauseScheme, block, guarded, is_lone_text, lone_code, coder_of, simple_code, statement_step, clause_code, handler_step, statement_code, handler_code}
 use Rattle.mon_compile.proofs.ExpressionLabels.{Moving, expression_moving}
 use Rattle.mon_compile.proofs.ContextLabels.{break_code_moved, continue_code_moved}
-use Rattle.mon_compile.proofs.StatementLabels.{Carrying, AllCarrying, ClauseCarrying, AllClauses, block_carrying, ending_carrying, assign_carrying, augmented_carrying, single_carrying, return_carrying, branch_carrying, while_carrying, for_carrying, try_carrying, except_carrying, except_as_carrying, bare_carrying}
+use Rattle.mon_compile.proofs.StatementLabels.{Carrying, AllCarrying, ClauseCarrying, AllClauses, block_carrying, ending_carrying, assign_carrying, augmented_carrying, single_carrying, return_carrying, branch_carrying, while_carrying, for_carrying, try_carrying, except_carrying, except_as_carrying, bare_carrying, guarded_carrying}
 
 lone_carrying : (g : Label → Label) (line : ℕ) (is_lone : Bool) (e : Coder) → Moving g e → Carrying g (lone_code line is_lone e)
 lone_carrying g line true e m context fix at = refl
@@ -122,3 +122,6 @@ body_carries g locals body = block_carrying g (map (statement_code locals) body)
 pub clauses_carry : (g : Label → Label) (locals : Locals) (clauses : List Handler) → AllClauses g (map (handler_code locals) clauses)
 clauses_carry g locals [] = tt
 clauses_carry g locals (c ∷ clauses) = (handler_carrying g locals c, clauses_carry g locals clauses)
+
+pub guarded_carries : (g : Label → Label) (locals : Locals) (body : List Statement) (clauses : List Handler) → Carrying g (guarded (block (map (statement_code locals) body)) (map (handler_code locals) clauses))
+guarded_carries g locals body clauses = guarded_carrying g (block (map (statement_code locals) body)) (map (handler_code locals) clauses) (body_carries g locals body) (clauses_carry g locals clauses)

@@ -1,12 +1,12 @@
 -- The least line of lines in turn.
-use Rattle.std.proofs.Common.{◌≡◌, ℕ, ◌+◌, ◌<◌, min, List, [], ◌∷◌, ◌++◌, length, map, drop, get_or, refl, ap, sym, ◌∙◌, arith, append_assoc}
+use Rattle.std.proofs.Common.{◌≡◌, ℕ, ◌+◌, ◌<◌, min, List, [], ◌∷◌, ◌++◌, length, map, drop, get_or, refl, ap, sym, ◌∙◌, arith}
 use Rattle.std.specs.Prelude.{Option, Some, None}
 use Rattle.std.proofs.lemmas.List.{append-nil}
 use Rattle.mon_trees.specs.declared.tree.Function.{Function}
 use Rattle.mon_trees.specs.declared.tree.ModuleItem.{ModuleItem}
 use Rattle.mon_trees.specs.declared.tree.ModuleItem.TheVariants as item
 use Rattle.mon_compile.specs.Earlier.{earlier}
-use Rattle.mon_compile.specs.Faults.{least_of, least, where_some, where_so, is_large, large_lines_of, large_lines_in}
+use Rattle.mon_compile.specs.Faults.{least_of, least, where_so, is_large, large_lines_of, large_lines_in}
 use Rattle.mon_compile.specs.Functions.{joined}
 use Rattle.mon_compile.specs.Modules.{functions_of, constant_value}
 use Rattle.mon_compile.proofs.Parts.{part_next}
@@ -67,17 +67,6 @@ least_three a b c lines one two three mid new is e1 e2 e3 m n =
     ∙ earlier_assoc one two three
     ∙ ap (λ l. earlier one l) (least_both b c (b ++ c) two three (earlier two three) refl e2 e3 refl)
     ∙ least_both a (b ++ c) lines one (least (b ++ c)) (earlier one (least (b ++ c))) is e1 refl refl
-
--- four parts
-pub least_four : (a b c d lines : List ℕ) (one two three four mid more new : Option ℕ) → lines ≡ a ++ (b ++ (c ++ d)) → one ≡ least a → two ≡ least b → three ≡ least c → four ≡ least d → mid ≡ earlier one two → more ≡ earlier mid three → new ≡ earlier more four
-    → new ≡ least lines
-least_four a b c d lines one two three four mid more new is e1 e2 e3 e4 m1 m2 n =
-    least_three (a ++ b) c d lines mid three four more new (is ∙ sym (append_assoc a b (c ++ d))) (least_both a b (a ++ b) one two mid refl e1 e2 m1) e3 e4 m2 n
-
--- a list is as empty as what is made of its parts
-pub some_of : {A B : Type 0} (f : A → B) (xs : List A) (line : ℕ) → where_some (map f xs) line ≡ where_some xs line
-some_of f [] line = refl
-some_of f (x ∷ xs) line = refl
 
 -- the lines of a module, item by item
 pub of_items : (x : ModuleItem) (rest : List ModuleItem) → large_lines_in (x ∷ rest) ≡ large_lines_in (x ∷ []) ++ large_lines_in rest

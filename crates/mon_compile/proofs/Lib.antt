@@ -27,6 +27,7 @@ pub mod Turns
 pub mod StatementHoles
 pub mod Clauses
 pub mod Loops
+pub mod Continued
 pub mod PlainOps
 pub mod Parts
 pub mod Unrolled

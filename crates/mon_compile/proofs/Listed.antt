@@ -16,9 +16,9 @@ use Rattle.mon_trees.specs.declared.tree.Module.{Module}
 use Rattle.mon_trees.specs.declared.tree.ModuleItem.{ModuleItem}
 use Rattle.mon_compile.specs.declared.assembly.Instruction.{Instruction}
 use Rattle.mon_compile.specs.declared.fault.CompileFault.{CompileFault}
-use Rattle.mon_compile.specs.declared.fault.CompileFault.TheVariants.{DuplicateName, Misplaced, TooLarge, NotBuilt, TooManyLocations}
+use Rattle.mon_compile.specs.declared.fault.CompileFault.TheVariants.{DuplicateName, Misplaced, TooLarge, TooManyLocations}
 use Rattle.mon_compile.specs.Answered.{own_codes}
-use Rattle.mon_compile.specs.Faults.{first_fault, duplicate, misplaced_in, large_lines_in, unbuilt_in, least, most_locations, too_many, fault_of_tree, compile_fault}
+use Rattle.mon_compile.specs.Faults.{first_fault, duplicate, misplaced_in, large_lines_in, least, most_locations, too_many, fault_of_tree, compile_fault}
 use Rattle.mon_compile.specs.Functions.{joined, function_code}
 use Rattle.mon_compile.specs.Marking.{jump_of, catch_of, goes_to, is_reached, mark, marked_by, code_of}
 use Rattle.mon_compile.specs.Modules.{constants_in, globals_in, location_of, locations_of, unmarked, marks, marked, op_number, bases_of, codes_of, functions_of, function_name, module_constants, compiled}
@@ -94,17 +94,13 @@ later m h =
     let twice = duplicate [] m.items in
     let places = least (joined (map misplaced_in fs)) in
     let large = least (large_lines_in m.items) in
-    let unbuilt = least (joined (map unbuilt_in fs)) in
-    let d = first_fault NotBuilt unbuilt None in
-    let c = first_fault TooLarge large d in
+    let c = first_fault TooLarge large None in
     let b = first_fault Misplaced places c in
     let h1 = left DuplicateName twice b h in
     let h2 = left Misplaced places c h1 in
-    let h3 = left TooLarge large d h2 in
-    let d' = first_fault NotBuilt unbuilt (too_many m) in
-    let c' = first_fault TooLarge large d' in
+    let c' = first_fault TooLarge large (too_many m) in
     let b' = first_fault Misplaced places c' in
-    pass DuplicateName twice b b' h ∙ pass Misplaced places c c' h1 ∙ pass TooLarge large d d' h2 ∙ pass NotBuilt unbuilt None (too_many m) h3
+    pass DuplicateName twice b b' h ∙ pass Misplaced places c c' h1 ∙ pass TooLarge large None (too_many m) h2
 
 few : (n : ℕ) → n ≤ most_locations → (if nat_lt most_locations n then Some TooManyLocations else None) ≡ None
 few n h = let e : nat_lt most_locations n ≡ false = grind (arith, nat_tests) in ap (λ (b : Bool). if b then Some TooManyLocations else None) e

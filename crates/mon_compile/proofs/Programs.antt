@@ -21,10 +21,10 @@ use Rattle.mon_trees.specs.declared.tree.ModuleItem.{ModuleItem}
 use Rattle.mon_trees.specs.declared.tree.ModuleItem.TheVariants as item
 use Rattle.mon_compile.specs.declared.assembly.Instruction.{Instruction}
 use Rattle.mon_compile.specs.declared.fault.CompileFault.{CompileFault}
-use Rattle.mon_compile.specs.declared.fault.CompileFault.TheVariants.{DuplicateName, Misplaced, TooLarge, NotBuilt, TooManyLocations}
+use Rattle.mon_compile.specs.declared.fault.CompileFault.TheVariants.{DuplicateName, Misplaced, TooLarge, TooManyLocations}
 use Rattle.mon_compile.specs.Functions.{joined, locals_of, function_code}
 use Rattle.mon_compile.specs.Modules.{constants_in, globals_in, locations_of, unmarked, marks, marked, op_number, bases_of, codes_of, functions_of, constant_value_step, constant_value, module_constants, function_name, compiled}
-use Rattle.mon_compile.specs.Faults.{FewLocals, duplicate, unless, all_loose, loose_of, misplaced_in, most_locals, large_lines_in, unbuilt_in, least, first_fault, most_locations, too_many, fault_of_tree, compile_fault}
+use Rattle.mon_compile.specs.Faults.{FewLocals, duplicate, unless, all_loose, loose_of, misplaced_in, most_locals, large_lines_in, least, first_fault, most_locations, too_many, fault_of_tree, compile_fault}
 use Rattle.mon_compile.proofs.ExpressionArguments.{int_constant, text_constant, single_constant, empty_constant}
 use Rattle.mon_compile.proofs.Located.{Ops, code_checked}
 
@@ -159,15 +159,13 @@ compiled_checked m h =
     let twice = duplicate [] m.items in
     let places = least (joined (map misplaced_in fs)) in
     let large = least (large_lines_in m.items) in
-    let unbuilt = least (joined (map unbuilt_in fs)) in
-    let h1 = none_right DuplicateName twice (first_fault Misplaced places (first_fault TooLarge large (first_fault NotBuilt unbuilt (too_many m)))) h in
-    let h2 = none_right Misplaced places (first_fault TooLarge large (first_fault NotBuilt unbuilt (too_many m))) h1 in
-    let h3 = none_right TooLarge large (first_fault NotBuilt unbuilt (too_many m)) h2 in
-    let h4 = none_right NotBuilt unbuilt (too_many m) h3 in
-    let placed = least_none (joined (map misplaced_in fs)) (none_left Misplaced places (first_fault TooLarge large (first_fault NotBuilt unbuilt (too_many m))) h1) in
+    let h1 = none_right DuplicateName twice (first_fault Misplaced places (first_fault TooLarge large (too_many m))) h in
+    let h2 = none_right Misplaced places (first_fault TooLarge large (too_many m)) h1 in
+    let h3 = none_right TooLarge large (too_many m) h2 in
+    let placed = least_none (joined (map misplaced_in fs)) (none_left Misplaced places (first_fault TooLarge large (too_many m)) h1) in
     record {
       named = length-map fs function_name ∙ sym (codes_length b 0 fs);
-      small = few_locations (length b) h4;
+      small = few_locations (length b) h3;
       constants = all_named m.items;
       codes = codes_checked b [] 0 fs refl refl (all_few fs placed);
     }
@@ -178,7 +176,7 @@ few_locals m h =
     let fs = functions_of m.items in
     let twice = duplicate [] m.items in
     let places = least (joined (map misplaced_in fs)) in
-    let others = first_fault TooLarge (least (large_lines_in m.items)) (first_fault NotBuilt (least (joined (map unbuilt_in fs))) None) in
+    let others = first_fault TooLarge (least (large_lines_in m.items)) None in
     all_few fs (least_none (joined (map misplaced_in fs)) (none_left Misplaced places others (none_right DuplicateName twice (first_fault Misplaced places others) h)))
 
 -- nothing that is misplaced
@@ -187,18 +185,5 @@ no_misplaced m h =
     let fs = functions_of m.items in
     let twice = duplicate [] m.items in
     let places = least (joined (map misplaced_in fs)) in
-    let others = first_fault TooLarge (least (large_lines_in m.items)) (first_fault NotBuilt (least (joined (map unbuilt_in fs))) (too_many m)) in
+    let others = first_fault TooLarge (least (large_lines_in m.items)) (too_many m) in
     least_none (joined (map misplaced_in fs)) (none_left Misplaced places others (none_right DuplicateName twice (first_fault Misplaced places others) h))
-
--- nothing that is not built
-pub no_unbuilt : (m : Module) → compile_fault m ≡ None → joined (map unbuilt_in (functions_of m.items)) ≡ []
-no_unbuilt m h =
-    let fs = functions_of m.items in
-    let twice = duplicate [] m.items in
-    let places = least (joined (map misplaced_in fs)) in
-    let large = least (large_lines_in m.items) in
-    let unbuilt = least (joined (map unbuilt_in fs)) in
-    let h1 = none_right DuplicateName twice (first_fault Misplaced places (first_fault TooLarge large (first_fault NotBuilt unbuilt (too_many m)))) h in
-    let h2 = none_right Misplaced places (first_fault TooLarge large (first_fault NotBuilt unbuilt (too_many m))) h1 in
-    let h3 = none_right TooLarge large (first_fault NotBuilt unbuilt (too_many m)) h2 in
-    least_none (joined (map unbuilt_in fs)) (none_left NotBuilt unbuilt (too_many m) h3)

@@ -19,7 +19,7 @@ use Rattle.mon_compile.specs.Placed.{index_of, number_in}
 use Rattle.mon_compile.proofs.Fit.{Lands, Stands, Good, FitsAs, records_as, stands_as, fits_as, behind, before, ends, join, catches_more, fits, fits_plain, fits_branch, fits_jump, fits_last, Catches}
 use Rattle.mon_compile.proofs.ExpressionDepths.{Sound}
 use Rattle.mon_compile.proofs.ContextDepths.{Fine, Closed, Keeps, fine_catches, fits_pop_except, leave_all_sound, same_length, to}
-use Rattle.mon_compile.proofs.StatementLabels.{Carrying, AllCarrying, AllClauses, block_carrying, clauses_carrying, same_entry, guarded_carrying}
+use Rattle.mon_compile.proofs.StatementLabels.{Carrying, AllCarrying, AllClauses, block_carrying, clauses_carrying, kept_entry, guarded_carrying}
 
 abbrev pub AllKeep : Table → List Scheme → Type 0
 AllKeep t [] = Unit {0}
@@ -390,17 +390,9 @@ handlers_keep t a cs carries clauses_carry ma mcs c f k at p w =
       start = g1.start;
     }
 
--- an entry of a `finally` with another label
-abbrev with_label : Label → Entry → Entry
-with_label l (Finally r b h) = Finally r b l
-with_label l e = e
-
 -- the entry of a `finally` in a closed context
 pub closed_entry : (f : Scheme) → ((g : Label → Label) → Carrying g f) → (c : Context) → Closed c → (g : Label → Label) → Fixes g → (l : Label) → moved_entry g (Finally (f (Returning ∷ c)) (f c) l) ≡ Finally (f (Returning ∷ c)) (f c) (g l)
-closed_entry f carries c k g fix l =
-    let moved_on : Finally (f (Returning ∷ moved_context g c)) (f (moved_context g c)) (At 0) ≡ moved_entry g (Finally (f (Returning ∷ c)) (f c) (At 0)) = same_entry g f (carries g) c fix (At 0) (fix 0) in
-    let still : Finally (f (Returning ∷ c)) (f c) (At 0) ≡ moved_entry g (Finally (f (Returning ∷ c)) (f c) (At 0)) = subst (λ (x : Context). Finally (f (Returning ∷ x)) (f x) (At 0) ≡ moved_entry g (Finally (f (Returning ∷ c)) (f c) (At 0))) (k g fix) moved_on in
-    ap (with_label (g l)) (sym still)
+closed_entry f carries c k g fix l = kept_entry g f (carries g) c fix (k g fix) l
 
 pub finally_keeps : (t : Table) (body f : Scheme) → ((g : Label → Label) → Carrying g body) → ((g : Label → Label) → Carrying g f) → Keeps t body → Keeps t f → Keeps t (finally_code body f)
 finally_keeps t body f carries f_carries mb mf c fine k at p w =

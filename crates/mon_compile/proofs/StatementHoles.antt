@@ -7,10 +7,10 @@ use Rattle.mon_compile.specs.declared.assembly.Instruction.{Instruction}
 use Rattle.mon_compile.specs.declared.assembly.Argument.TheVariants.{Number, Destination}
 use Rattle.mon_compile.specs.declared.assembly.Label.{Label}
 use Rattle.mon_compile.specs.declared.assembly.Label.TheVariants.{At}
-use Rattle.mon_compile.specs.Contexts.{FromAt, Spot, Context, While, For, Try, put, none, above, bare, at_line, no_line}
+use Rattle.mon_compile.specs.Contexts.{FromAt, Spot, Entry, Context, While, For, Try, Finally, Raised, Returning, put, none, above, bare, at_line, no_line}
 use Rattle.mon_compile.specs.Expressions.{Coder, Locals, store_code}
-use Rattle.mon_compile.specs.Statements.{Scheme, ClauseScheme, while_code, for_code, if_code, if_else_code, in_clause, except_body, except_as_body, except_code, except_as_code, clauses_code, handlers_code}
-use Rattle.mon_compile.specs.Open.{inside, ending}
+use Rattle.mon_compile.specs.Statements.{Scheme, ClauseScheme, while_code, for_code, if_code, if_else_code, in_clause, except_body, except_as_body, except_code, except_as_code, clauses_code, handlers_code, finally_code}
+use Rattle.mon_compile.specs.Open.{inside, ending, covered}
 use Rattle.mon_compile.proofs.ExpressionHoles.{written}
 
 -- a jump behind one part and over another
@@ -188,3 +188,32 @@ pub except_as_written : (line : ℕ) (t : Coder) (n : ℕ) (b : Scheme) (y : Lab
     → slice_set c4 branch (put up Op.PopJumpIfFalse (Destination (At (length c4)))) ≡ c0 ++ except_as_code line t n b y context (length c0)
 except_as_written line t n b y context s up branch c0 c1 c2 c3 c4 x hs e1 hb hu e2 e3 e4 =
     matched_written t (except_as_body n b y context) (in_clause (at_line line context)) s up (λ z. put z Op.StoreFast (Number n)) branch c0 c1 c2 c3 c4 x hs e1 hb hu e2 e3 e4
+
+-- the last part behind what it covers, and again where an exception came
+pub finally_written : (a f : Scheme) (context : Context) → ((at : ℕ) → length (covered a f context at) ≡ length (a (Finally (f (Returning ∷ context)) (f context) (At 0) ∷ context) at) + length (f context (at + length (a (Finally (f (Returning ∷ context)) (f context) (At 0) ∷ context) at))))
+    → (low up spot : Spot) (jump : ℕ) (c0 c1 c2 c3 c4 c5 : List Instruction) (x : Instruction) → c1 ≡ c0 ++ covered a f context (length c0) → jump ≡ length c1 → low ≡ no_line context → c2 ≡ c1 ++ (x ∷ []) → up ≡ above 1 low → c3 ≡ c2 ++ (put up Op.PushExcInfo none ∷ [])
+    → c4 ≡ c3 ++ f (Raised ∷ context) (length c3) → spot ≡ in_clause low → c5 ≡ c4 ++ (put spot Op.Reraise none ∷ []) → slice_set c5 jump (put low Op.JumpForward (Destination (At (length c5)))) ≡ c0 ++ finally_code a f context (length c0)
+finally_written a f context size low up spot jump c0 c1 c2 c3 c4 c5 x e1 hj hl e2 hu e3 e4 hs e5 =
+    let entry : Label → Entry = λ l. Finally (f (Returning ∷ context)) (f context) l in
+    let from = length c0 + length (a (entry (At 0) ∷ context) (length c0)) in
+    let usual = f context from in
+    let h = from + length usual + 1 in
+    let body = a (entry (At h) ∷ context) (length c0) in
+    let raised = f (Raised ∷ context) (h + 1) in
+    let front = covered a f context (length c0) in
+    let push = put (above 1 (no_line context)) Op.PushExcInfo none in
+    let end = put (in_clause (no_line context)) Op.Reraise none ∷ [] in
+    let rest = push ∷ (raised ++ end) in
+    let jumping : Spot → ℕ → Instruction = λ z n. put z Op.JumpForward (Destination (At n)) in
+    let f3 : c3 ≡ c2 ++ (push ∷ []) = e3 ∙ ap (λ (z : Spot). c2 ++ (put z Op.PushExcInfo none ∷ [])) (hu ∙ ap (λ (z : Spot). above 1 z) hl) in
+    let l3 : length c3 ≡ h + 1 = omega (arith, ap length e1 ∙ length-append c0 front, size (length c0), ap length e2 ∙ length-append c1 (x ∷ []), ap length f3 ∙ length-append c2 (push ∷ [])) in
+    let f4 : c4 ≡ c3 ++ raised = e4 ∙ ap (λ n. c3 ++ f (Raised ∷ context) n) l3 in
+    let f5 : c5 ≡ c4 ++ end = e5 ∙ ap (λ (z : Spot). c4 ++ (put z Op.Reraise none ∷ [])) (hs ∙ ap (λ (z : Spot). in_clause z) hl) in
+    let flat : ((c2 ++ (push ∷ [])) ++ raised) ++ end ≡ c2 ++ rest = simp append_assoc in
+    let whole : c5 ≡ c2 ++ rest = f5 ∙ ap (λ l. l ++ end) (f4 ∙ ap (λ l. l ++ raised) f3) ∙ flat in
+    let y = h + 1 + length raised + 1 in
+    let there : length c5 ≡ y = omega (arith, ap length f5 ∙ length-append c4 end, ap length f4 ∙ length-append c3 raised, l3) in
+    over front rest c0 c1 c2 c5 x (jumping low (length c5)) jump e1 hj e2 whole
+    ∙ ap (λ (z : Spot). c0 ++ (front ++ (jumping z (length c5) ∷ rest))) hl
+    ∙ ap (λ n. c0 ++ (front ++ (jumping (no_line context) n ∷ rest))) there
+    ∙ ap (λ l. c0 ++ l) (append_assoc body usual (jumping (no_line context) y ∷ rest))

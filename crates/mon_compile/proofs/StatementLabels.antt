@@ -1,5 +1,5 @@
 -- The code of a statement has the labels of its context and no others: another label there is another label here.
-use Rattle.std.proofs.Common.{◌≡◌, ℕ, ◌+◌, List, [], ◌∷◌, ◌++◌, length, map, refl, sym, ap, ◌∙◌}
+use Rattle.std.proofs.Common.{◌≡◌, ℕ, ◌+◌, List, [], ◌∷◌, ◌++◌, length, map, refl, sym, ap, ◌∙◌, subst}
 use Rattle.std.proofs.lemmas.List.{map-append, length-map}
 use Rattle.mon_events.specs.declared.op.Op.{Op}
 use Rattle.mon_trees.specs.declared.tree.Targets.{Targets}
@@ -242,6 +242,16 @@ same_entry g f m context fix l same =
     ap (λ (r : FromAt). Finally r (f (moved_context g context)) l) on_return
     ∙ ap (λ (b : FromAt). Finally (λ at. map (moved g) (f (Returning ∷ context) at)) b l) on_break
     ∙ ap (λ k. Finally (λ at. map (moved g) (f (Returning ∷ context) at)) (λ at. map (moved g) (f context at)) k) (sym same)
+
+abbrev with_label : Label → Entry → Entry
+with_label l (Finally r b h) = Finally r b l
+with_label l e = e
+
+-- that of a context which these labels leave as it is
+pub kept_entry : (g : Label → Label) (f : Scheme) → Carrying g f → (context : Context) → Fixes g → moved_context g context ≡ context → (l : Label) → moved_entry g (Finally (f (Returning ∷ context)) (f context) l) ≡ Finally (f (Returning ∷ context)) (f context) (g l)
+kept_entry g f m context fix same l =
+    let moved_on = moved_entry g (Finally (f (Returning ∷ context)) (f context) (At 0)) in
+    ap (with_label (g l)) (sym (subst (λ (x : Context). Finally (f (Returning ∷ x)) (f x) (At 0) ≡ moved_on) same (same_entry g f m context fix (At 0) (fix 0))))
 
 pub finally_carrying : (g : Label → Label) (body f : Scheme) → Carrying g body → Carrying g f → Carrying g (finally_code body f)
 finally_carrying g body f mb mf context fix at =

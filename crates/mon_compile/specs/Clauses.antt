@@ -3,7 +3,7 @@ use Rattle.std.specs.Prelude.{ℕ, Bool, List}
 use Rattle.mon_trees.specs.declared.tree.Handler.{Handler}
 use Rattle.mon_trees.specs.declared.tree.Statement.TheFolds.{fold-Handler}
 use Rattle.mon_compile.specs.Functions.{names_step, handler_names_step, statement_yields_step, handler_yields_step}
-use Rattle.mon_compile.specs.Faults.{loose_step, loose_handler_step, large_lines_step, large_handler_step, finally_lines_step, finally_handler_step}
+use Rattle.mon_compile.specs.Faults.{loose_step, loose_handler_step, large_lines_step, large_handler_step}
 
 -- the names that it assigns to
 abbrev pub clause_names : Handler → List (List ℕ)
@@ -20,7 +20,3 @@ clause_loose = fold-Handler (Bool → List ℕ) (Bool → List ℕ) loose_step l
 -- those of what itself has a constant over the limits
 abbrev pub clause_large : Handler → List ℕ
 clause_large = fold-Handler (List ℕ) (List ℕ) large_lines_step large_handler_step
-
--- those of each `try` with a `finally`
-abbrev pub clause_finally : Handler → List ℕ
-clause_finally = fold-Handler (List ℕ) (List ℕ) finally_lines_step finally_handler_step

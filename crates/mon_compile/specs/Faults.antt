@@ -16,10 +16,10 @@ use Rattle.mon_trees.specs.declared.tree.Statement.{Statement}
 use Rattle.mon_trees.specs.declared.tree.Statement.TheOpen.{Statement-F, Handler-F}
 use Rattle.mon_trees.specs.declared.tree.Statement.TheFolds.{fold-Statement}
 use Rattle.mon_compile.specs.declared.fault.CompileFault.{CompileFault}
-use Rattle.mon_compile.specs.declared.fault.CompileFault.TheVariants.{DuplicateName, Misplaced, TooLarge, NotBuilt, TooManyLocations}
+use Rattle.mon_compile.specs.declared.fault.CompileFault.TheVariants.{DuplicateName, Misplaced, TooLarge, TooManyLocations}
 use Rattle.mon_compile.specs.Expressions.{single_value, is_local}
 use Rattle.mon_compile.specs.Statements.{is_lone_text}
-use Rattle.mon_compile.specs.Functions.{joined, locals_of, yields_of}
+use Rattle.mon_compile.specs.Functions.{joined, locals_of}
 use Rattle.mon_compile.specs.Modules.{functions_of, constant_value, bases_of}
 
 -- DuplicateName
@@ -151,28 +151,6 @@ large_lines_in (item.Function f ∷ items) = joined (map large_lines_of f.body) 
 large_lines_in (item.Constant line name c ∷ items) = where_so (is_large (constant_value c)) line ++ large_lines_in items
 large_lines_in (item.Text t ∷ items) = large_lines_in items
 
--- NotBuilt: the line of each `yield`, and that of each `try` with a `finally`
-
-abbrev pub where_some : {A : Type 0} → List A → ℕ → List ℕ
-where_some [] line = []
-where_some (x ∷ xs) line = line ∷ []
-
-abbrev pub finally_lines_step : Statement-F (List ℕ) (List ℕ) → List ℕ
-finally_lines_step (Statement-F.Simple line s) = []
-finally_lines_step (Statement-F.If line c a b) = joined a ++ joined b
-finally_lines_step (Statement-F.While line c a) = joined a
-finally_lines_step (Statement-F.For line t e a) = joined a
-finally_lines_step (Statement-F.Try line a handlers f) = where_some f line ++ (joined a ++ (joined handlers ++ joined f))
-
-abbrev pub finally_handler_step : Handler-F (List ℕ) (List ℕ) → List ℕ
-finally_handler_step h = joined h.body
-
-abbrev pub finally_lines_of : Statement → List ℕ
-finally_lines_of = fold-Statement (List ℕ) (List ℕ) finally_lines_step finally_handler_step
-
-abbrev pub unbuilt_in : Function → List ℕ
-unbuilt_in f = joined (map yields_of f.body) ++ joined (map finally_lines_of f.body)
-
 -- the first fault
 
 abbrev pub least_of : ℕ → List ℕ → ℕ
@@ -201,8 +179,7 @@ fault_before others m =
     first_fault DuplicateName (duplicate [] m.items)
     (first_fault Misplaced (least (joined (map misplaced_in functions)))
     (first_fault TooLarge (least (large_lines_in m.items))
-    (first_fault NotBuilt (least (joined (map unbuilt_in functions)))
-    others)))
+    others))
 
 abbrev pub fault_of_tree : Module → Option CompileFault
 fault_of_tree = fault_before None

@@ -7,6 +7,7 @@ pub mod Functions
 pub mod SchemeLaws
 pub mod Modules
 pub mod Faults
+pub mod Generators
 pub mod Given
 pub mod Content
 pub mod InnerContexts

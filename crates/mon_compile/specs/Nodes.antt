@@ -7,6 +7,9 @@ use Rattle.mon_trees.specs.declared.tree.Handler.{Handler}
 use Rattle.mon_trees.specs.declared.tree.Statement.{Statement}
 use Rattle.mon_trees.specs.declared.tree.Statement.TheOpen.{Statement-F, Handler-F}
 use Rattle.mon_trees.specs.declared.tree.Statement.TheFolds.{fold-Statement, fold-Handler}
+use Rattle.mon_compile.specs.declared.surroundings.Surroundings.{Surroundings}
+use Rattle.mon_compile.specs.declared.surroundings.Surroundings.TheOpen.{Surroundings-F}
+use Rattle.mon_compile.specs.declared.surroundings.Surroundings.TheFolds.{fold-Surroundings}
 
 abbrev pub total : List ℕ → ℕ
 total [] = 0
@@ -62,3 +65,18 @@ block_nodes body = total (map statement_nodes body)
 
 abbrev pub clauses_nodes : List Handler → ℕ
 clauses_nodes clauses = total (map handler_nodes clauses)
+
+-- those of the last parts that stand round a statement
+abbrev pub last_nodes_step : Surroundings-F ℕ → ℕ
+last_nodes_step Surroundings-F.Top = 0
+last_nodes_step (Surroundings-F.While x outer) = outer.now
+last_nodes_step (Surroundings-F.For x outer) = outer.now
+last_nodes_step (Surroundings-F.Try outer) = outer.now
+last_nodes_step (Surroundings-F.Except outer) = outer.now
+last_nodes_step (Surroundings-F.ExceptAs n outer) = outer.now
+last_nodes_step (Surroundings-F.Finally last outer) = block_nodes last.now + outer.now
+last_nodes_step (Surroundings-F.Raised outer) = outer.now
+last_nodes_step (Surroundings-F.Returning outer) = outer.now
+
+abbrev pub last_nodes : Surroundings → ℕ
+last_nodes = fold-Surroundings ℕ last_nodes_step

@@ -1,10 +1,10 @@
 //! The code of `try` and its clauses.
 
-ghost use Rattle.std.specs.Prelude.{◌≡◌, ◌<◌, ◌≤◌, length, map};
+ghost use Rattle.std.specs.Prelude.{◌≡◌, ◌+◌, ◌*◌, ◌<◌, ◌≤◌, length, map};
 ghost use Rattle.mon_compile.specs.Contexts as spec;
 ghost use Rattle.mon_compile.specs.Emission.{Emits};
 ghost use Rattle.mon_compile.specs.Expressions as scheme;
-ghost use Rattle.mon_compile.specs.Open.{open_context, inside, ending};
+ghost use Rattle.mon_compile.specs.Open.{open_context, depth_of, inside, ending, covered};
 ghost use Rattle.mon_compile.specs.Statements as statements;
 
 use crate::assembly::{Label, Spot};
@@ -16,10 +16,10 @@ use mon_trees::tree::{Expression, Handler, Statement};
 impl Emitter<'_> {
     // The spot of a clause: the exception is on the stack and on the handling list.
     fn in_clause(&self, spot: Spot) -> Spot
-        requires stack { spot.stack < length self.now.code }
-        requires handling { spot.handling < length self.now.code }
+        requires stack { spot.stack < 2 * length self.now.code }
+        requires handling { spot.handling < 2 * length self.now.code }
         ensures spot { result ≡ statements.in_clause spot }
-        ensures stack { result.stack ≤ length self.now.code }
+        ensures stack { result.stack ≤ 2 * length self.now.code }
     {
         let beside = self.beside(spot);
         self.above(beside, 1)
@@ -35,16 +35,79 @@ impl Emitter<'_> {
         clauses: &[Handler],
         last: &[Statement],
     ) -> Result<(), EmitFault>
-        requires { length (open_context context.now) ≤ length self.old.code }
-        ensures { Emits result self.old self.new (statements.try_code line (statements.block_code self.old.locals body.now) (map (statements.handler_code self.old.locals) clauses.now) (map (statements.statement_code self.old.locals) last.now) (open_context context.now)) }
+        requires { depth_of context.now ≤ 2 * length self.old.code }
+        ensures { Emits result self.old self.new (statements.try_code line (statements.block_code self.old.locals body.now) (map (statements.handler_code self.old.locals) clauses.now) (map (statements.statement_code self.old.locals) last.now) (open_context self.old.locals context.now)) }
     {
-        if !last.is_empty() {
-            // Never reached: a `finally` is a fault, and faults are tried before code is made.
-            return Err(EmitFault::Memory);
-        }
         let spot = self.at_line(context, line);
         self.put_plain(spot, Op::Nop)?;
-        self.handlers(context, body, clauses)
+        if last.is_empty() {
+            self.handlers(context, body, clauses)
+        } else {
+            self.finally(context, body, clauses, last)
+        }
+    }
+
+    // The body and the last part; JUMP_FORWARD y (-); h: PUSH_EXC_INFO (-); the last part; RERAISE (-); y:
+    #[cycle(statement)]
+    fn finally(
+        &mut self,
+        context: &Surroundings,
+        body: &[Statement],
+        clauses: &[Handler],
+        last: &[Statement],
+    ) -> Result<(), EmitFault>
+        requires { 1 + depth_of context.now < 2 * length self.old.code }
+        ensures { Emits result self.old self.new (statements.finally_code (statements.guarded (statements.block_code self.old.locals body.now) (map (statements.handler_code self.old.locals) clauses.now)) (statements.block_code self.old.locals last.now) (open_context self.old.locals context.now)) }
+    {
+        let low = self.no_line(context);
+        let up = self.above(low, 1);
+        let spot = self.in_clause(low);
+        self.covered(context, body, clauses, last)?;
+        let jump = self.here();
+        self.put_plain(low, Op::JumpForward)?;
+        self.put_plain(up, Op::PushExcInfo)?;
+        self.block(&Surroundings::Raised(&*context), last)?;
+        self.put_plain(spot, Op::Reraise)?;
+        self.jump_here(jump, low, Op::JumpForward);
+        Ok(())
+    }
+
+    // What a last part covers, whose handler stands one instruction behind the part, and the part.
+    #[cycle(statement)]
+    fn covered(
+        &mut self,
+        context: &Surroundings,
+        body: &[Statement],
+        clauses: &[Handler],
+        last: &[Statement],
+    ) -> Result<(), EmitFault>
+        requires { 1 + depth_of context.now < 2 * length self.old.code }
+        ensures { Emits result self.old self.new (covered (statements.guarded (statements.block_code self.old.locals body.now) (map (statements.handler_code self.old.locals) clauses.now)) (statements.block_code self.old.locals last.now) (open_context self.old.locals context.now)) }
+    {
+        let from = self.here();
+        let handler = Label::HandlerOf(self.depth(context));
+        self.guarded(&Surroundings::Finally(&*last, &*context), body, clauses)?;
+        self.block(context, last)?;
+        self.settle_behind(from, handler, 1);
+        Ok(())
+    }
+
+    // The body of a `try` that has a last part, with the clauses, if there are any.
+    #[cycle(statement)]
+    fn guarded(
+        &mut self,
+        context: &Surroundings,
+        body: &[Statement],
+        clauses: &[Handler],
+    ) -> Result<(), EmitFault>
+        requires { depth_of context.now < 2 * length self.old.code }
+        ensures { Emits result self.old self.new (statements.guarded (statements.block_code self.old.locals body.now) (map (statements.handler_code self.old.locals) clauses.now) (open_context self.old.locals context.now)) }
+    {
+        if clauses.is_empty() {
+            self.block(context, body)
+        } else {
+            self.handlers(context, body, clauses)
+        }
     }
 
     // The body; JUMP_FORWARD y (-); h: PUSH_EXC_INFO (-); the clauses; y:
@@ -55,8 +118,8 @@ impl Emitter<'_> {
         body: &[Statement],
         clauses: &[Handler],
     ) -> Result<(), EmitFault>
-        requires { length (open_context context.now) < length self.old.code }
-        ensures { Emits result self.old self.new (statements.handlers_code (statements.block_code self.old.locals body.now) (map (statements.handler_code self.old.locals) clauses.now) (open_context context.now)) }
+        requires { depth_of context.now < 2 * length self.old.code }
+        ensures { Emits result self.old self.new (statements.handlers_code (statements.block_code self.old.locals body.now) (map (statements.handler_code self.old.locals) clauses.now) (open_context self.old.locals context.now)) }
     {
         let low = self.no_line(context);
         let up = self.above(low, 1);
@@ -72,8 +135,8 @@ impl Emitter<'_> {
     // The body of a `try`, whose handler stands one instruction behind the body.
     #[cycle(statement)]
     fn try_body(&mut self, context: &Surroundings, body: &[Statement]) -> Result<(), EmitFault>
-        requires { length (open_context context.now) < length self.old.code }
-        ensures { Emits result self.old self.new (inside spec.Try 1 (statements.block_code self.old.locals body.now) (open_context context.now)) }
+        requires { depth_of context.now < 2 * length self.old.code }
+        ensures { Emits result self.old self.new (inside spec.Try 1 (statements.block_code self.old.locals body.now) (open_context self.old.locals context.now)) }
     {
         let from = self.here();
         let handler = Label::HandlerOf(self.depth(context));
@@ -85,8 +148,8 @@ impl Emitter<'_> {
     // The clauses of a `try`, which ends behind them.
     #[cycle(statement)]
     fn clauses(&mut self, context: &Surroundings, clauses: &[Handler]) -> Result<(), EmitFault>
-        requires { length (open_context context.now) < length self.old.code }
-        ensures { Emits result self.old self.new (ending (statements.clauses_code (map (statements.handler_code self.old.locals) clauses.now)) (open_context context.now)) }
+        requires { depth_of context.now < 2 * length self.old.code }
+        ensures { Emits result self.old self.new (ending (statements.clauses_code (map (statements.handler_code self.old.locals) clauses.now)) (open_context self.old.locals context.now)) }
     {
         let from = self.here();
         let end = Label::EndOf(self.depth(context));
@@ -103,8 +166,8 @@ impl Emitter<'_> {
         end: Label,
         clauses: &[Handler],
     ) -> Result<(), EmitFault>
-        requires { length (open_context context.now) < length self.old.code }
-        ensures { Emits result self.old self.new (statements.clauses_code (map (statements.handler_code self.old.locals) clauses.now) end (open_context context.now)) }
+        requires { depth_of context.now < 2 * length self.old.code }
+        ensures { Emits result self.old self.new (statements.clauses_code (map (statements.handler_code self.old.locals) clauses.now) end (open_context self.old.locals context.now)) }
     {
         let low = self.no_line(context);
         let spot = self.in_clause(low);
@@ -125,8 +188,8 @@ impl Emitter<'_> {
         end: Label,
         clause: &Handler,
     ) -> Result<(), EmitFault>
-        requires { length (open_context context.now) < length self.old.code }
-        ensures { Emits result self.old self.new ((statements.handler_code self.old.locals clause.now).code end (open_context context.now)) }
+        requires { depth_of context.now < 2 * length self.old.code }
+        ensures { Emits result self.old self.new ((statements.handler_code self.old.locals clause.now).code end (open_context self.old.locals context.now)) }
     {
         let body = clause.body.as_slice();
         match (&clause.class, &clause.name) {
@@ -148,8 +211,8 @@ impl Emitter<'_> {
         end: Label,
         body: &[Statement],
     ) -> Result<(), EmitFault>
-        requires { length (open_context context.now) < length self.old.code }
-        ensures { Emits result self.old self.new (statements.bare_code line (statements.block_code self.old.locals body.now) end (open_context context.now)) }
+        requires { depth_of context.now < 2 * length self.old.code }
+        ensures { Emits result self.old self.new (statements.bare_code line (statements.block_code self.old.locals body.now) end (open_context self.old.locals context.now)) }
     {
         let low = self.at_line(context, line);
         let spot = self.in_clause(low);
@@ -168,8 +231,8 @@ impl Emitter<'_> {
         class: &Expression,
         body: &[Statement],
     ) -> Result<(), EmitFault>
-        requires { length (open_context context.now) < length self.old.code }
-        ensures { Emits result self.old self.new (statements.except_code line (scheme.expression_code self.old.locals class.now) (statements.block_code self.old.locals body.now) end (open_context context.now)) }
+        requires { depth_of context.now < 2 * length self.old.code }
+        ensures { Emits result self.old self.new (statements.except_code line (scheme.expression_code self.old.locals class.now) (statements.block_code self.old.locals body.now) end (open_context self.old.locals context.now)) }
     {
         let low = self.at_line(context, line);
         let spot = self.in_clause(low);
@@ -191,8 +254,8 @@ impl Emitter<'_> {
         end: Label,
         body: &[Statement],
     ) -> Result<(), EmitFault>
-        requires { length (open_context context.now) < length self.old.code }
-        ensures { Emits result self.old self.new (statements.except_body (statements.block_code self.old.locals body.now) end (open_context context.now)) }
+        requires { depth_of context.now < 2 * length self.old.code }
+        ensures { Emits result self.old self.new (statements.except_body (statements.block_code self.old.locals body.now) end (open_context self.old.locals context.now)) }
     {
         let low = self.no_line(context);
         let handling = self.beside(low);
@@ -212,8 +275,8 @@ impl Emitter<'_> {
         local: u32,
         body: &[Statement],
     ) -> Result<(), EmitFault>
-        requires { length (open_context context.now) < length self.old.code }
-        ensures { Emits result self.old self.new (statements.except_as_code line (scheme.expression_code self.old.locals class.now) local (statements.block_code self.old.locals body.now) end (open_context context.now)) }
+        requires { depth_of context.now < 2 * length self.old.code }
+        ensures { Emits result self.old self.new (statements.except_as_code line (scheme.expression_code self.old.locals class.now) local (statements.block_code self.old.locals body.now) end (open_context self.old.locals context.now)) }
     {
         let low = self.at_line(context, line);
         let spot = self.in_clause(low);
@@ -237,8 +300,8 @@ impl Emitter<'_> {
         local: u32,
         body: &[Statement],
     ) -> Result<(), EmitFault>
-        requires { length (open_context context.now) < length self.old.code }
-        ensures { Emits result self.old self.new (statements.except_as_body local (statements.block_code self.old.locals body.now) end (open_context context.now)) }
+        requires { depth_of context.now < 2 * length self.old.code }
+        ensures { Emits result self.old self.new (statements.except_as_body local (statements.block_code self.old.locals body.now) end (open_context self.old.locals context.now)) }
     {
         let low = self.no_line(context);
         let handling = self.beside(low);
@@ -262,8 +325,8 @@ impl Emitter<'_> {
         local: u32,
         body: &[Statement],
     ) -> Result<(), EmitFault>
-        requires { length (open_context context.now) < length self.old.code }
-        ensures { Emits result self.old self.new (inside (spec.ExceptAs local) 3 (statements.block_code self.old.locals body.now) (open_context context.now)) }
+        requires { depth_of context.now < 2 * length self.old.code }
+        ensures { Emits result self.old self.new (inside (spec.ExceptAs local) 3 (statements.block_code self.old.locals body.now) (open_context self.old.locals context.now)) }
     {
         let from = self.here();
         let handler = Label::HandlerOf(self.depth(context));

@@ -1,10 +1,10 @@
 //! The code of statements with blocks.
 
-ghost use Rattle.std.specs.Prelude.{◌≡◌, ◌<◌, ◌≤◌, length, map};
+ghost use Rattle.std.specs.Prelude.{◌≡◌, ◌*◌, ◌<◌, ◌≤◌, length, map};
 ghost use Rattle.mon_compile.specs.Contexts as spec;
 ghost use Rattle.mon_compile.specs.Emission.{Emits};
 ghost use Rattle.mon_compile.specs.Expressions as scheme;
-ghost use Rattle.mon_compile.specs.Open.{open_context, inside};
+ghost use Rattle.mon_compile.specs.Open.{open_context, depth_of, inside};
 ghost use Rattle.mon_compile.specs.Statements as statements;
 
 use crate::assembly::Label;
@@ -21,8 +21,8 @@ impl Emitter<'_> {
         context: &Surroundings,
         statement: &Statement,
     ) -> Result<(), EmitFault>
-        requires { length (open_context context.now) ≤ length self.old.code }
-        ensures { Emits result self.old self.new (statements.statement_code self.old.locals statement.now (open_context context.now)) }
+        requires { depth_of context.now ≤ 2 * length self.old.code }
+        ensures { Emits result self.old self.new (statements.statement_code self.old.locals statement.now (open_context self.old.locals context.now)) }
     {
         match statement {
             Statement::Simple(line, simple) => self.simple(context, *line, simple),
@@ -45,8 +45,8 @@ impl Emitter<'_> {
     /// The code of statements one after another.
     #[cycle(statement)]
     pub fn block(&mut self, context: &Surroundings, body: &[Statement]) -> Result<(), EmitFault>
-        requires { length (open_context context.now) ≤ length self.old.code }
-        ensures { Emits result self.old self.new (statements.block_code self.old.locals body.now (open_context context.now)) }
+        requires { depth_of context.now ≤ 2 * length self.old.code }
+        ensures { Emits result self.old self.new (statements.block_code self.old.locals body.now (open_context self.old.locals context.now)) }
     {
         for statement in body {
             self.statement(context, statement)?;
@@ -63,8 +63,8 @@ impl Emitter<'_> {
         test: &Expression,
         body: &[Statement],
     ) -> Result<(), EmitFault>
-        requires { length (open_context context.now) ≤ length self.old.code }
-        ensures { Emits result self.old self.new (statements.while_code line (scheme.expression_code self.old.locals test.now) (statements.block_code self.old.locals body.now) (open_context context.now)) }
+        requires { depth_of context.now ≤ 2 * length self.old.code }
+        ensures { Emits result self.old self.new (statements.while_code line (scheme.expression_code self.old.locals test.now) (statements.block_code self.old.locals body.now) (open_context self.old.locals context.now)) }
     {
         let start = self.here();
         let spot = self.at_line(context, line);
@@ -87,8 +87,8 @@ impl Emitter<'_> {
         start: u32,
         body: &[Statement],
     ) -> Result<(), EmitFault>
-        requires { length (open_context context.now) < length self.old.code }
-        ensures { Emits result self.old self.new (inside (spec.While start) 1 (statements.block_code self.old.locals body.now) (open_context context.now)) }
+        requires { depth_of context.now < 2 * length self.old.code }
+        ensures { Emits result self.old self.new (inside (spec.While start) 1 (statements.block_code self.old.locals body.now) (open_context self.old.locals context.now)) }
     {
         let from = self.here();
         let end = Label::EndOf(self.depth(context));
@@ -107,8 +107,8 @@ impl Emitter<'_> {
         whole: &Expression,
         body: &[Statement],
     ) -> Result<(), EmitFault>
-        requires { length (open_context context.now) ≤ length self.old.code }
-        ensures { Emits result self.old self.new (statements.for_code self.old.locals line targets.now (scheme.expression_code self.old.locals whole.now) (statements.block_code self.old.locals body.now) (open_context context.now)) }
+        requires { depth_of context.now ≤ 2 * length self.old.code }
+        ensures { Emits result self.old self.new (statements.for_code self.old.locals line targets.now (scheme.expression_code self.old.locals whole.now) (statements.block_code self.old.locals body.now) (open_context self.old.locals context.now)) }
     {
         let spot = self.at_line(context, line);
         let up = self.above(spot, 1);
@@ -135,8 +135,8 @@ impl Emitter<'_> {
         start: u32,
         body: &[Statement],
     ) -> Result<(), EmitFault>
-        requires { length (open_context context.now) < length self.old.code }
-        ensures { Emits result self.old self.new (inside (spec.For start) 2 (statements.block_code self.old.locals body.now) (open_context context.now)) }
+        requires { depth_of context.now < 2 * length self.old.code }
+        ensures { Emits result self.old self.new (inside (spec.For start) 2 (statements.block_code self.old.locals body.now) (open_context self.old.locals context.now)) }
     {
         let from = self.here();
         let end = Label::EndOf(self.depth(context));
@@ -155,8 +155,8 @@ impl Emitter<'_> {
         body: &[Statement],
         other: &[Statement],
     ) -> Result<(), EmitFault>
-        requires { length (open_context context.now) ≤ length self.old.code }
-        ensures { Emits result self.old self.new (statements.branch_code line (scheme.expression_code self.old.locals test.now) (statements.block_code self.old.locals body.now) (map (statements.statement_code self.old.locals) other.now) (open_context context.now)) }
+        requires { depth_of context.now ≤ 2 * length self.old.code }
+        ensures { Emits result self.old self.new (statements.branch_code line (scheme.expression_code self.old.locals test.now) (statements.block_code self.old.locals body.now) (map (statements.statement_code self.old.locals) other.now) (open_context self.old.locals context.now)) }
     {
         if other.is_empty() {
             self.if_alone(context, line, test, body)
@@ -174,8 +174,8 @@ impl Emitter<'_> {
         test: &Expression,
         body: &[Statement],
     ) -> Result<(), EmitFault>
-        requires { length (open_context context.now) ≤ length self.old.code }
-        ensures { Emits result self.old self.new (statements.if_code line (scheme.expression_code self.old.locals test.now) (statements.block_code self.old.locals body.now) (open_context context.now)) }
+        requires { depth_of context.now ≤ 2 * length self.old.code }
+        ensures { Emits result self.old self.new (statements.if_code line (scheme.expression_code self.old.locals test.now) (statements.block_code self.old.locals body.now) (open_context self.old.locals context.now)) }
     {
         let spot = self.at_line(context, line);
         let up = self.above(spot, 1);
@@ -197,8 +197,8 @@ impl Emitter<'_> {
         body: &[Statement],
         other: &[Statement],
     ) -> Result<(), EmitFault>
-        requires { length (open_context context.now) ≤ length self.old.code }
-        ensures { Emits result self.old self.new (statements.if_else_code line (scheme.expression_code self.old.locals test.now) (statements.block_code self.old.locals body.now) (statements.block_code self.old.locals other.now) (open_context context.now)) }
+        requires { depth_of context.now ≤ 2 * length self.old.code }
+        ensures { Emits result self.old self.new (statements.if_else_code line (scheme.expression_code self.old.locals test.now) (statements.block_code self.old.locals body.now) (statements.block_code self.old.locals other.now) (open_context self.old.locals context.now)) }
     {
         let spot = self.at_line(context, line);
         let low = self.no_line(context);

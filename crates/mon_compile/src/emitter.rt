@@ -1,6 +1,6 @@
 //! The code of a function while it is made.
 
-ghost use Rattle.std.specs.Prelude.{◌≡◌, ◌+◌, ◌≤◌, ◌<◌, [], length, slice_set, OnOk};
+ghost use Rattle.std.specs.Prelude.{◌≡◌, ◌*◌, ◌+◌, ◌≤◌, ◌<◌, [], length, slice_set, OnOk};
 ghost use Rattle.mon_values.specs.declared.value.Value as values;
 ghost use Rattle.mon_compile.specs.declared.emitter.EmitFault.TheVariants.{Memory};
 ghost use Rattle.mon_compile.specs.declared.assembly.Argument.TheVariants.{Number, Destination};
@@ -10,7 +10,7 @@ ghost use Rattle.mon_compile.specs.Emission.{Counts, Emits, emitted, one};
 ghost use Rattle.mon_compile.specs.Expressions as scheme;
 ghost use Rattle.mon_compile.specs.Faults.{most_locals, most_locations};
 ghost use Rattle.mon_compile.specs.Open as opened;
-ghost use Rattle.mon_compile.specs.Open.{open_context};
+ghost use Rattle.mon_compile.specs.Open.{open_context, depth_of};
 
 use crate::assembly::{Argument, Instruction, Label, Spot};
 use crate::codes::text;
@@ -136,42 +136,19 @@ impl Emitter<'_> {
 
     /// How many entries there are, of which each has an instruction before it.
     pub fn depth(&self, context: &Surroundings) -> u32
-        requires { length (open_context context.now) ≤ length self.now.code }
-        ensures { result ≡ length (open_context context.now) }
+        requires { depth_of context.now ≤ 2 * length self.now.code }
+        ensures { result ≡ length (open_context self.now.locals context.now) }
     {
         prove!(self.code.len() <= self.limit);
         context.depth()
     }
 
-    /// The spot of an instruction without a line, at the depths of these entries.
-    pub fn no_line(&self, context: &Surroundings) -> Spot
-        requires { length (open_context context.now) ≤ length self.now.code }
-        ensures spot { result ≡ spec.no_line (open_context context.now) }
-        ensures stack { result.stack ≤ length (open_context context.now) }
-        ensures handling { result.handling ≤ length (open_context context.now) }
-    {
-        prove!(self.code.len() <= self.limit);
-        context.no_line()
-    }
-
-    /// The same at a line.
-    pub fn at_line(&self, context: &Surroundings, line: u32) -> Spot
-        requires { length (open_context context.now) ≤ length self.now.code }
-        ensures spot { result ≡ spec.at_line line (open_context context.now) }
-        ensures stack { result.stack ≤ length (open_context context.now) }
-        ensures handling { result.handling ≤ length (open_context context.now) }
-        ensures few { length (open_context context.now) ≤ most_locations }
-    {
-        prove!(self.code.len() <= self.limit);
-        context.at_line(line)
-    }
-
     /// The spot above n more values.
     pub fn above(&self, spot: Spot, n: u32) -> Spot
-        requires spot { spot.stack ≤ length self.now.code }
+        requires spot { spot.stack ≤ 2 * length self.now.code }
         requires few { n ≤ most_locations + 1 }
         ensures spot { result ≡ spec.above n spot }
-        ensures few { spot.stack ≤ most_locations }
+        ensures few { spot.stack ≤ 2 * most_locations }
     {
         prove!(self.code.len() <= self.limit);
         spot.above(n)
@@ -179,7 +156,7 @@ impl Emitter<'_> {
 
     /// The spot beside one more exception.
     pub fn beside(&self, spot: Spot) -> Spot
-        requires { spot.handling ≤ length self.now.code }
+        requires { spot.handling ≤ 2 * length self.now.code }
         ensures { result ≡ spec.beside 1 spot }
     {
         prove!(self.code.len() <= self.limit);

@@ -1,6 +1,6 @@
 //! The code of expressions.
 
-ghost use Rattle.std.specs.Prelude.{◌≡◌, ◌+◌, ◌≤◌, [], ◌∷◌, ◌++◌, length, map};
+ghost use Rattle.std.specs.Prelude.{◌≡◌, ◌*◌, ◌+◌, ◌≤◌, [], ◌∷◌, ◌++◌, length, map};
 ghost use Rattle.mon_events.specs.declared.op.Op.{Op};
 ghost use Rattle.mon_compile.specs.declared.assembly.Argument.TheVariants.{Number};
 ghost use Rattle.mon_compile.specs.Contexts as spec;
@@ -19,7 +19,7 @@ impl Emitter<'_> {
     /// The code of an expression, which pushes one value.
     #[cycle(expression)]
     pub fn expression(&mut self, spot: Spot, expression: &Expression) -> Result<(), EmitFault>
-        requires { spot.stack ≤ length self.old.code }
+        requires { spot.stack ≤ 2 * length self.old.code }
         ensures { Emits result self.old self.new (scheme.expression_code self.old.locals expression.now spot) }
     {
         match expression {
@@ -54,7 +54,7 @@ impl Emitter<'_> {
 
     // LOAD_CONST None; YIELD_VALUE; RESUME 1 (-)
     fn yield_none(&mut self, spot: Spot) -> Result<(), EmitFault>
-        requires { spot.stack ≤ length self.old.code }
+        requires { spot.stack ≤ 2 * length self.old.code }
         ensures { Emits result self.old self.new (scheme.yield_code (scheme.or_none None) spot) }
     {
         self.put_constant(spot, Value::None)?;
@@ -64,7 +64,7 @@ impl Emitter<'_> {
     // E(value); YIELD_VALUE; RESUME 1 (-)
     #[cycle(expression)]
     fn yield_value(&mut self, spot: Spot, value: &Expression) -> Result<(), EmitFault>
-        requires { spot.stack ≤ length self.old.code }
+        requires { spot.stack ≤ 2 * length self.old.code }
         ensures { Emits result self.old self.new (scheme.yield_code (scheme.expression_code self.old.locals value.now) spot) }
     {
         self.expression(spot, value)?;
@@ -73,7 +73,7 @@ impl Emitter<'_> {
 
     // YIELD_VALUE; RESUME 1 (-), above a value.
     fn put_yield(&mut self, spot: Spot) -> Result<(), EmitFault>
-        requires { spot.stack ≤ length self.old.code }
+        requires { spot.stack ≤ 2 * length self.old.code }
         ensures { Emits result self.old self.new (λ at. spec.put (spec.above 1 spot) Op.YieldValue spec.none ∷ (spec.put (spec.above 1 (spec.bare spot)) Op.Resume (Number 1) ∷ [])) }
     {
         let up = self.above(spot, 1);
@@ -84,7 +84,7 @@ impl Emitter<'_> {
     // An operand, and then an operator.
     #[cycle(expression)]
     fn unary(&mut self, spot: Spot, op: Op, a: &Expression) -> Result<(), EmitFault>
-        requires { spot.stack ≤ length self.old.code }
+        requires { spot.stack ≤ 2 * length self.old.code }
         ensures { Emits result self.old self.new (scheme.one_code (scheme.expression_code self.old.locals a.now) op spot) }
     {
         let up = self.above(spot, 1);
@@ -102,7 +102,7 @@ impl Emitter<'_> {
         a: &Expression,
         b: &Expression,
     ) -> Result<(), EmitFault>
-        requires { spot.stack ≤ length self.old.code }
+        requires { spot.stack ≤ 2 * length self.old.code }
         ensures { Emits result self.old self.new (scheme.two_code (scheme.expression_code self.old.locals a.now) (scheme.expression_code self.old.locals b.now) op number spot) }
     {
         let up = self.above(spot, 1);
@@ -122,7 +122,7 @@ impl Emitter<'_> {
         a: &Expression,
         b: &Expression,
     ) -> Result<(), EmitFault>
-        requires { spot.stack ≤ length self.old.code }
+        requires { spot.stack ≤ 2 * length self.old.code }
         ensures { Emits result self.old self.new (scheme.two_code (scheme.expression_code self.old.locals a.now) (scheme.expression_code self.old.locals b.now) (scheme.comparison_op op) (scheme.comparison_number op) spot) }
     {
         self.binary(spot, comparison_op(op), comparison_number(op), a, b)
@@ -137,7 +137,7 @@ impl Emitter<'_> {
         number: u32,
         single: Single,
     ) -> Result<(), EmitFault>
-        requires { spot.stack ≤ length self.old.code }
+        requires { spot.stack ≤ 2 * length self.old.code }
         ensures { Emits result self.old self.new (scheme.two_code (scheme.expression_code self.old.locals a.now) (scheme.constant_code (scheme.single_value single)) Op.IsOp number spot) }
     {
         let up = self.above(spot, 1);
@@ -150,7 +150,7 @@ impl Emitter<'_> {
     // Expressions one after another, each above the values of those before.
     #[cycle(expression)]
     fn expressions(&mut self, spot: Spot, expressions: &[Expression]) -> Result<(), EmitFault>
-        requires { spot.stack ≤ length self.old.code }
+        requires { spot.stack ≤ 2 * length self.old.code }
         ensures { Emits result self.old self.new (scheme.in_turn (map (scheme.expression_code self.old.locals) expressions.now) spot) }
     {
         let mut up = spot;
@@ -164,7 +164,7 @@ impl Emitter<'_> {
     // E of each; BUILD_TUPLE n
     #[cycle(expression)]
     fn tuple(&mut self, spot: Spot, parts: &[Expression]) -> Result<(), EmitFault>
-        requires { spot.stack ≤ length self.old.code }
+        requires { spot.stack ≤ 2 * length self.old.code }
         ensures { Emits result self.old self.new (scheme.tuple_code (map (scheme.expression_code self.old.locals) parts.now) spot) }
     {
         self.expressions(spot, parts)?;
@@ -176,7 +176,7 @@ impl Emitter<'_> {
     // E(f); E of each; CALL n
     #[cycle(expression)]
     fn call(&mut self, spot: Spot, f: &Expression, args: &[Expression]) -> Result<(), EmitFault>
-        requires { spot.stack ≤ length self.old.code }
+        requires { spot.stack ≤ 2 * length self.old.code }
         ensures { Emits result self.old self.new (scheme.call_code (scheme.expression_code self.old.locals f.now) (map (scheme.expression_code self.old.locals) args.now) spot) }
     {
         let up = self.above(spot, 1);
@@ -194,7 +194,7 @@ impl Emitter<'_> {
         method: Method,
         args: &[Expression],
     ) -> Result<(), EmitFault>
-        requires { spot.stack ≤ length self.old.code }
+        requires { spot.stack ≤ 2 * length self.old.code }
         ensures { Emits result self.old self.new (scheme.method_code (scheme.expression_code self.old.locals object.now) (scheme.method_number method) (map (scheme.expression_code self.old.locals) args.now) spot) }
     {
         let up = self.above(spot, 1);
@@ -208,7 +208,7 @@ impl Emitter<'_> {
     // E of each; CALL with a count
     #[cycle(expression)]
     fn arguments(&mut self, spot: Spot, args: &[Expression], count: usize) -> Result<(), EmitFault>
-        requires spot { spot.stack ≤ length self.old.code }
+        requires spot { spot.stack ≤ 2 * length self.old.code }
         requires near { count ≤ length args.now + 1 }
         ensures { Emits result self.old self.new (λ at. scheme.in_turn (map (scheme.expression_code self.old.locals) args.now) spot at ++ (spec.put (spec.above (length args.now) spot) Op.Call (Number count) ∷ [])) }
     {
@@ -228,7 +228,7 @@ impl Emitter<'_> {
         jump: Op,
         b: &Expression,
     ) -> Result<(), EmitFault>
-        requires { spot.stack ≤ length self.old.code }
+        requires { spot.stack ≤ 2 * length self.old.code }
         ensures { Emits result self.old self.new (scheme.short_code (scheme.expression_code self.old.locals a.now) (scheme.expression_code self.old.locals b.now) jump spot) }
     {
         let up = self.above(spot, 1);
@@ -252,7 +252,7 @@ impl Emitter<'_> {
         test: &Expression,
         b: &Expression,
     ) -> Result<(), EmitFault>
-        requires { spot.stack ≤ length self.old.code }
+        requires { spot.stack ≤ 2 * length self.old.code }
         ensures { Emits result self.old self.new (scheme.conditional_code (scheme.expression_code self.old.locals a.now) (scheme.expression_code self.old.locals test.now) (scheme.expression_code self.old.locals b.now) spot) }
     {
         let up = self.above(spot, 1);

@@ -20,9 +20,6 @@ pub enum CompileFault {
     /// A constant over the limits of weight and depth.
     #[error("TooLarge {0}")]
     TooLarge(u32),
-    /// A `yield` or a `finally`, which are not built yet.
-    #[error("NotBuilt {0}")]
-    NotBuilt(u32),
     /// The program would have over 65,536 locations.
     #[error("TooManyLocations")]
     TooManyLocations,

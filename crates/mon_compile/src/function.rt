@@ -40,7 +40,7 @@ impl Emitter<'_> {
     fn start(&mut self, generates: bool) -> Result<(), EmitFault>
         ensures { Emits result self.old self.new (λ at. spec.start_code generates) }
     {
-        let spot = Surroundings::Top.no_line();
+        let spot = self.no_line(&Surroundings::Top);
         if generates {
             self.put_plain(spot, Op::ReturnGenerator)?;
             self.put_plain(spot.above(1), Op::PopTop)?;
@@ -52,7 +52,7 @@ impl Emitter<'_> {
     fn end(&mut self) -> Result<(), EmitFault>
         ensures { Emits result self.old self.new (λ at. spec.end_code) }
     {
-        let spot = Surroundings::Top.no_line();
+        let spot = self.no_line(&Surroundings::Top);
         self.put_constant(spot, Value::None)?;
         self.put_plain(spot.above(1), Op::ReturnValue)
     }

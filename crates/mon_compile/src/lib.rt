@@ -12,6 +12,7 @@ mod emitter;
 mod expressions;
 mod fault;
 mod function;
+mod generators;
 mod large;
 mod leaving;
 mod marking;
@@ -23,13 +24,13 @@ mod settle;
 mod simple;
 mod surroundings;
 mod tree_fault;
-mod unbuilt;
 mod yields;
 
 pub use fault::CompileFault;
+pub use generators::has_generators;
 pub use program::compile;
 pub use scheme_laws::{
     breaks_stand_in_loops, code_has_labels_of_context, compiled_programs_are_checked,
-    compiled_programs_have_content, compiled_programs_have_no_generators,
-    contexts_have_indexes_alone, function_code_fits_depths, lengths_depend_on_no_index,
+    compiled_programs_have_content, contexts_have_indexes_alone, function_code_fits_depths,
+    generators_are_functions_that_yield, lengths_depend_on_no_index,
 };

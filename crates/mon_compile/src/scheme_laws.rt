@@ -1,9 +1,10 @@
 //! Laws of the compile scheme, for every tree.
 
 ghost use Rattle.mon_compile.specs.Content.{ContentLaw};
+ghost use Rattle.mon_compile.specs.Generators.{GeneratorsYield, PlainWithoutGenerators};
 ghost use Rattle.mon_compile.specs.InLoops.{BreaksStandInLoops, TellsLoose};
 ghost use Rattle.mon_compile.specs.InnerContexts.{AllHaveLabels, ClausesSameLength, ContextsAreClosed, SameLength};
-ghost use Rattle.mon_compile.specs.SchemeLaws.{FitsDepths, HasNoGenerators, ProgramsAreChecked};
+ghost use Rattle.mon_compile.specs.SchemeLaws.{FitsDepths, ProgramsAreChecked};
 
 /// The code of a block, and of the body of a `try` with its clauses, has the labels of its context and no others.
 pub fn code_has_labels_of_context()
@@ -21,9 +22,11 @@ pub fn compiled_programs_are_checked()
     ensures { ProgramsAreChecked }
 {}
 
-/// The program of a module without a fault has no opcode of generators, since a `yield` is not built yet.
-pub fn compiled_programs_have_no_generators()
-    ensures { HasNoGenerators }
+/// The program of a module has RETURN_GENERATOR exactly where one of the module's functions has a `yield`, and without
+/// it no opcode of generators.
+pub fn generators_are_functions_that_yield()
+    ensures generators { GeneratorsYield }
+    ensures plain { PlainWithoutGenerators }
 {}
 
 /// At each index of each code, and past its end, the program of a module without a fault has the opcode, the argument by

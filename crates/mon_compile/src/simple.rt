@@ -1,13 +1,13 @@
 //! The code of statements without a block.
 
-ghost use Rattle.std.specs.Prelude.{◌≡◌, ◌+◌, ◌≤◌, [], ◌∷◌, ◌++◌, length};
+ghost use Rattle.std.specs.Prelude.{◌≡◌, ◌*◌, ◌+◌, ◌≤◌, [], ◌∷◌, ◌++◌, length};
 ghost use Rattle.mon_events.specs.declared.op.Op.{Op};
 ghost use Rattle.mon_compile.specs.declared.assembly.Argument.TheVariants.{Number};
 ghost use Rattle.mon_compile.specs.Contexts as spec;
 ghost use Rattle.mon_compile.specs.Emission.{Emits};
 ghost use Rattle.mon_compile.specs.Expressions as scheme;
 ghost use Rattle.mon_compile.specs.Faults.{most_locations};
-ghost use Rattle.mon_compile.specs.Open.{open_context};
+ghost use Rattle.mon_compile.specs.Open.{open_context, depth_of};
 ghost use Rattle.mon_compile.specs.Statements as statements;
 
 use crate::assembly::Spot;
@@ -28,26 +28,23 @@ pub fn is_lone_text(expression: &Expression) -> bool
 
 impl Emitter<'_> {
     /// The code of a statement without a block, on a line.
+    #[cycle(statement)]
     pub fn simple(
         &mut self,
         context: &Surroundings,
         line: u32,
         simple: &Simple,
     ) -> Result<(), EmitFault>
-        requires { length (open_context context.now) ≤ length self.old.code }
-        ensures { Emits result self.old self.new (statements.simple_code self.old.locals line simple.now (open_context context.now)) }
+        requires { depth_of context.now ≤ 2 * length self.old.code }
+        ensures { Emits result self.old self.new (statements.simple_code self.old.locals line simple.now (open_context self.old.locals context.now)) }
     {
         let spot = self.at_line(context, line);
         match simple {
             Simple::Pass => self.put_plain(spot, Op::Nop),
             Simple::Break => self.break_loop(context, line),
             Simple::Continue => self.continue_loop(context, line),
-            Simple::Return(None) => {
-                self.put_constant(spot, Value::None)?;
-                self.leave_function(context, line)
-            }
-            Simple::Return(Some(value)) => {
-                self.expression(spot, value)?;
+            Simple::Return(value) => {
+                self.returned(spot, value)?;
                 self.leave_function(context, line)
             }
             Simple::Raise(None) => self.put_number(spot, Op::RaiseVarargs, 0),
@@ -66,13 +63,25 @@ impl Emitter<'_> {
         }
     }
 
+    // The value that a `return` gives: E(value) or LOAD_CONST None
+    fn returned(&mut self, spot: Spot, value: &Option<Expression>) -> Result<(), EmitFault>
+        requires { spot.stack ≤ 2 * length self.old.code }
+        ensures { Emits result self.old self.new (scheme.or_none (statements.coder_of self.old.locals value.now) spot) }
+    {
+        match value {
+            None => self.put_constant(spot, Value::None),
+            Some(value) => self.expression(spot, value),
+        }
+    }
+
     // The value on top is returned: leave all entries; RETURN_VALUE
+    #[cycle(statement)]
     fn leave_function(&mut self, context: &Surroundings, line: u32) -> Result<(), EmitFault>
-        requires { length (open_context context.now) ≤ most_locations }
-        ensures { Emits result self.old self.new (λ at. statements.leave_all (open_context context.now) at ++ (spec.put (spec.above 1 (spec.at_line line [])) Op.ReturnValue spec.none ∷ [])) }
+        requires { depth_of context.now ≤ 2 * length self.old.code }
+        ensures { Emits result self.old self.new (λ at. statements.leave_all (open_context self.old.locals context.now) at ++ (spec.put (spec.above 1 (spec.at_line line [])) Op.ReturnValue spec.none ∷ [])) }
     {
         self.leave_all(context)?;
-        let spot = Surroundings::Top.at_line(line);
+        let spot = self.at_line(&Surroundings::Top, line);
         self.put_plain(spot.above(1), Op::ReturnValue)
     }
 
@@ -84,7 +93,7 @@ impl Emitter<'_> {
         op: Op,
         number: u32,
     ) -> Result<(), EmitFault>
-        requires { spot.stack ≤ length self.old.code }
+        requires { spot.stack ≤ 2 * length self.old.code }
         ensures { Emits result self.old self.new (λ at. scheme.expression_code self.old.locals expression.now spot at ++ (spec.put (spec.above 1 spot) op (Number number) ∷ [])) }
     {
         let up = self.above(spot, 1);
@@ -100,7 +109,7 @@ impl Emitter<'_> {
         op: BinaryOperator,
         expression: &Expression,
     ) -> Result<(), EmitFault>
-        requires { spot.stack ≤ length self.old.code }
+        requires { spot.stack ≤ 2 * length self.old.code }
         ensures { Emits result self.old self.new (λ at. spec.put spot Op.LoadFast (Number (scheme.number_of_local self.old.locals name.now)) ∷ (scheme.expression_code self.old.locals expression.now (spec.above 1 spot) (at + 1) ++ (spec.put (spec.above 2 spot) Op.BinaryOp (Number (scheme.binary_number op)) ∷ (spec.put (spec.above 1 spot) Op.StoreFast (Number (scheme.number_of_local self.old.locals name.now)) ∷ [])))) }
     {
         let local = self.local(name);
@@ -115,7 +124,7 @@ impl Emitter<'_> {
 
     /// The value above a spot goes into what is assigned to.
     pub fn store(&mut self, spot: Spot, targets: &Targets) -> Result<(), EmitFault>
-        requires { spot.stack ≤ length self.old.code }
+        requires { spot.stack ≤ 2 * length self.old.code }
         ensures { Emits result self.old self.new (λ at. scheme.store_code self.old.locals targets.now spot) }
     {
         let up = self.above(spot, 1);
@@ -134,7 +143,7 @@ impl Emitter<'_> {
 
     // The names of a tuple, the first on top.
     fn store_names(&mut self, spot: Spot, names: &[Text]) -> Result<(), EmitFault>
-        requires spot { spot.stack ≤ most_locations }
+        requires spot { spot.stack ≤ 2 * most_locations }
         requires names { length names.now ≤ most_locations }
         ensures { Emits result self.old self.new (λ at. scheme.store_names self.old.locals names.now spot) }
     {

@@ -7,7 +7,6 @@ use crate::duplicates::duplicate;
 use crate::fault::CompileFault;
 use crate::large::large;
 use crate::misplaced::misplaced;
-use crate::unbuilt::unbuilt;
 use mon_trees::tree::Module;
 use std::alloc::{AllocError, Global};
 
@@ -22,11 +21,8 @@ pub fn tree_fault(alloc: Global, module: &Module) -> Result<Option<CompileFault>
     if let Some(line) = misplaced(alloc, items)? {
         return Ok(Some(CompileFault::Misplaced(line)));
     }
-    if let Some(line) = large(items) {
-        return Ok(Some(CompileFault::TooLarge(line)));
-    }
-    match unbuilt(items) {
-        Some(line) => Ok(Some(CompileFault::NotBuilt(line))),
+    match large(items) {
+        Some(line) => Ok(Some(CompileFault::TooLarge(line))),
         None => Ok(None),
     }
 }

@@ -15,9 +15,9 @@ pub fn is_generator(function: &Function) -> bool
     yield_in_block(function.body.as_slice()).is_some()
 }
 
-/// The least line of a `yield` in a block.
+// The least line of a `yield` in a block.
 #[cycle(yield_in_block)]
-pub fn yield_in_block(body: &[Statement]) -> Option<u32>
+fn yield_in_block(body: &[Statement]) -> Option<u32>
     ensures { result ≡ least (spec.joined (map spec.yields_of body.now)) }
 {
     let mut line = None;

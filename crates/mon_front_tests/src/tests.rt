@@ -1,5 +1,6 @@
 mod expressions;
 mod faults;
+mod last_parts;
 mod leaving;
 mod limits;
 mod outline;

@@ -61,28 +61,6 @@ const MISPLACED: [Row; 11] = [
     ),
 ];
 
-const NOT_BUILT: [Row; 7] = [
-    (b"def f():\n    yield 1\n", "NotBuilt 2"),
-    (b"def f():\n    a = yield\n", "NotBuilt 2"),
-    (b"def f(g):\n    g(1, (\n        yield))\n", "NotBuilt 3"),
-    (
-        b"def f():\n    try: pass\n    finally: pass\n",
-        "NotBuilt 2",
-    ),
-    (
-        b"def f(a):\n    while a:\n        try: pass\n        except: pass\n        finally: pass\n",
-        "NotBuilt 3",
-    ),
-    (
-        b"def f():\n    try: pass\n    except:\n        yield\n    finally: pass\n",
-        "NotBuilt 2",
-    ),
-    (
-        b"def f(): pass\ndef g():\n    yield\ndef h():\n    yield\n",
-        "NotBuilt 3",
-    ),
-];
-
 fn check(rt: &impl Abort, alloc: Global, rows: &[Row]) -> Result<(), Fail> {
     for (text, wanted) in rows {
         let out = verdict(alloc, text)?;
@@ -101,18 +79,12 @@ fn jumps_out_of_loops_stand_in_loops(rt: HostRuntime) -> Result<(), Fail> {
     check(&rt, rt.alloc(), MISPLACED.as_slice())
 }
 
-#[test]
-fn generators_and_last_parts_are_not_built(rt: HostRuntime) -> Result<(), Fail> {
-    check(&rt, rt.alloc(), NOT_BUILT.as_slice())
-}
-
 /// The first lines of a module in which each line has a fault that is tried before those of the lines above it.
 fn fault_of_lines(alloc: Global, count: usize) -> Result<String, Fail> {
     let large = filled(alloc, "b = '", "x", 4_097, "'\n")?;
     let many = filled(alloc, "def a(): return ", "0,", 65_532, "\n")?;
     let lines = [
         many.as_str(),
-        "def c(): yield\n",
         large.as_str(),
         "def d(): break\n",
         "def d(): pass\n",
@@ -124,12 +96,11 @@ fn fault_of_lines(alloc: Global, count: usize) -> Result<String, Fail> {
     verdict(alloc, text.as_bytes())
 }
 
-const ORDER: [(usize, &str); 5] = [
+const ORDER: [(usize, &str); 4] = [
     (1, "TooManyLocations"),
-    (2, "NotBuilt 2"),
-    (3, "TooLarge 3"),
-    (4, "Misplaced 4"),
-    (5, "DuplicateName 5"),
+    (2, "TooLarge 2"),
+    (3, "Misplaced 3"),
+    (4, "DuplicateName 4"),
 ];
 
 #[test]

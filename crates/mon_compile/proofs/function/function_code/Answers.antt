@@ -21,17 +21,17 @@ use Rattle.mon_compile.specs.Statements.{block_code}
 use Rattle.mon_compile.proofs.Emissions.{code_of}
 use Rattle.mon_compile.proofs.function.function_code.Goals as goal
 
-top_open : open_context surroundings.Top ≡ []
-top_open = ap open_context (sym views.rolls-Top) ∙ fold-roll-Surroundings Context open_step Surroundings-F.Top
+top_open : (locals : Locals) → open_context locals surroundings.Top ≡ []
+top_open locals = ap (open_context locals) (sym views.rolls-Top) ∙ fold-roll-Surroundings Context (open_step locals) Surroundings-F.Top
 
-in_parts : (locals locals' : Locals) (body body' : List Statement) (g g' : Bool) (c0 c1 c2 c3 : List Instruction) → c0 ≡ [] → c1 ≡ c0 ++ spec.start_code g' → c2 ≡ c1 ++ block_code locals' body' (open_context surroundings.Top) (length c1) → c3 ≡ c2 ++ spec.end_code
+in_parts : (locals locals' : Locals) (body body' : List Statement) (g g' : Bool) (c0 c1 c2 c3 : List Instruction) → c0 ≡ [] → c1 ≡ c0 ++ spec.start_code g' → c2 ≡ c1 ++ block_code locals' body' (open_context locals' surroundings.Top) (length c1) → c3 ≡ c2 ++ spec.end_code
     → g' ≡ g → locals' ≡ locals → body' ≡ body → c3 ≡ spec.start_code g ++ (block_code locals body [] (length (spec.start_code g)) ++ spec.end_code)
 in_parts locals locals' body body' g g' c0 c1 c2 c3 e0 e1 e2 e3 same same_locals same_body =
     let start = spec.start_code g in
     let one : c1 ≡ start = e1 ∙ ap (λ l. l ++ spec.start_code g') e0 ∙ ap spec.start_code same in
     let two : c2 ≡ start ++ block_code locals body [] (length start)
     = e2
-    ∙ ap (λ (c : Context). c1 ++ block_code locals' body' c (length c1)) top_open
+    ∙ ap (λ (c : Context). c1 ++ block_code locals' body' c (length c1)) (top_open locals')
     ∙ ap (λ (l : List Instruction). l ++ block_code locals' body' [] (length l)) one
     ∙ ap (λ (n : Locals). start ++ block_code n body' [] (length start)) same_locals
     ∙ ap (λ (b : List Statement). start ++ block_code locals b [] (length start)) same_body in
@@ -66,7 +66,7 @@ returns-in_err-start c =
     let f = c.args.function.now in
     let e = c.new-emitter.result in
     let g = c.is_generator.result in
-    let top = open_context surroundings.Top in
+    let top = open_context (spec.locals_of f) surroundings.Top in
     let c1 = e.code ++ spec.start_code g in
     let c2 = c1 ++ block_code (spec.locals_of f) f.body top (length c1) in
     let all = in_parts (spec.locals_of f) (spec.locals_of f) f.body f.body (spec.is_generator f) g e.code c1 c2 (c2 ++ spec.end_code) (ap code_of c.new-emitter.ensures) refl refl refl c.is_generator.ensures refl refl in
@@ -79,7 +79,7 @@ returns-in_err-block c =
     let f = c.args.function.now in
     let e = c.start.new.self in
     let body = c.as_slice.result.now in
-    let part = block_code e.locals body (open_context surroundings.Top) in
+    let part = block_code e.locals body (open_context e.locals surroundings.Top) in
     let c2 = e.code ++ part (length e.code) in
     let same = ap names_of c.in_ok-start.ensures ∙ ap names_of c.new-emitter.ensures ∙ c.requires.locals in
     let all = in_parts (spec.locals_of f) e.locals f.body body (spec.is_generator f) _ _ e.code c2 (c2 ++ spec.end_code) (ap code_of c.new-emitter.ensures) (ap code_of c.in_ok-start.ensures) refl refl c.is_generator.ensures same c.as_slice.ensures in

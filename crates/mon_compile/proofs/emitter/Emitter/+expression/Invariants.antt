@@ -8,7 +8,7 @@ abbrev pub invariant-expressions-loop-expression : goal.invariant-expressions-lo
 invariant-expressions-loop-expression l =
     record {
       made : emitted l.self (scheme.in_turn (map (scheme.expression_code l.self.locals) (drop l.expression-index l.expressions)) l.up) ≡ emitted l.fn.self (scheme.in_turn (map (scheme.expression_code l.fn.self.locals) l.expressions) l.fn.spot);
-      deep : l.up.stack ≤ length l.self.code;
+      deep : l.up.stack ≤ 2 * length l.self.code;
     }
 
 abbrev pub decreases-expression : goal.decreases-expression
