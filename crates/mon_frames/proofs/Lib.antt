@@ -3,3 +3,4 @@ pub mod Tops
 pub mod Ranges
 pub mod Taking
 pub mod Counting
+mod Resuming

@@ -1,11 +1,14 @@
 -- A call's answer is the due one, or want of memory with the frames as before.
-use Rattle.std.specs.Prelude.{◌≡◌, List, [], ◌∷◌, ◌++◌, length, Option, Some, None, Result, Ok, Err}
+use Rattle.std.specs.Prelude.{ℕ, ◌≡◌, List, [], ◌∷◌, ◌++◌, length, Option, Some, None, Result, Ok, Err}
 use Rattle.mon_values.specs.declared.value.Value.{Value, Iter}
 use Rattle.mon_values.specs.declared.fault.Trouble.{Trouble}
 use Rattle.mon_frames.specs.declared.fault.FrameFault.{FrameFault}
 use Rattle.mon_frames.specs.declared.fault.FrameFault.TheVariants as frame
 use Rattle.mon_frames.specs.declared.fault.IterFault.{IterFault}
 use Rattle.mon_frames.specs.declared.fault.IterFault.TheVariants as iter
+use Rattle.mon_frames.specs.declared.fault.ResumeFault.{ResumeFault}
+use Rattle.mon_frames.specs.declared.fault.ResumeFault.TheVariants as resume
+use Rattle.mon_frames.specs.declared.generator.Closing.{Closing}
 use Rattle.mon_frames.specs.Views.{FramesView}
 
 -- the frames that are due, or their fault
@@ -39,3 +42,24 @@ GivesFirst (Err e) old new = new ≡ old
 abbrev pub Adds : {E : Type 0} → Result Value E → List Value → FramesView → FramesView → Type 0
 Adds (Ok x) items old new = (x ≡ Iter (length old.iterators)) × (new ≡ record old { iterators = old.iterators ++ items ∷ [] })
 Adds (Err e) items old new = new ≡ old
+
+-- the number and the frames that are due
+abbrev pub AnswersPark : {E : Type 0} → Result ℕ E → ℕ × FramesView → FramesView → FramesView → Type 0
+AnswersPark (Ok number) due old new = (number ≡ due.0) × (new ≡ due.1)
+AnswersPark (Err e) due old new = new ≡ old
+
+-- the frames that are due, or why a generator does not go on
+abbrev pub AnswersResume : {T : Type 0} → Result T ResumeFault → Result FramesView ResumeFault → FramesView → FramesView → Type 0
+AnswersResume (Ok t) (Ok due) old new = new ≡ due
+AnswersResume (Ok t) (Err due) old new = ⊥
+AnswersResume (Err resume.Memory) due old new = new ≡ old
+AnswersResume (Err fault) (Ok due) old new = ⊥
+AnswersResume (Err fault) (Err due) old new = (due ≡ fault) × (new ≡ old)
+
+-- what a close did and the frames that are due, or why the generator was not closed
+abbrev pub AnswersClose : Result Closing ResumeFault → Result (Closing × FramesView) ResumeFault → FramesView → FramesView → Type 0
+AnswersClose (Ok closing) (Ok due) old new = (closing ≡ due.0) × (new ≡ due.1)
+AnswersClose (Ok closing) (Err due) old new = ⊥
+AnswersClose (Err resume.Memory) due old new = new ≡ old
+AnswersClose (Err fault) (Ok due) old new = ⊥
+AnswersClose (Err fault) (Err due) old new = (due ≡ fault) × (new ≡ old)

@@ -10,10 +10,10 @@ use Rattle.mon_frames.specs.declared.frame.Frame.{Frame}
 use Rattle.mon_frames.specs.declared.call.Call.{Call}
 use Rattle.mon_frames.specs.declared.call.Origin.{Origin}
 use Rattle.mon_frames.specs.declared.call.Origin.TheVariants.{Plain, Generator as Generated}
-use Rattle.mon_frames.specs.declared.call.Generator.{Generator}
-use Rattle.mon_frames.specs.declared.call.Generator.TheVariants.{Finished}
+use Rattle.mon_frames.specs.declared.generator.Generator.{Generator}
+use Rattle.mon_frames.specs.declared.generator.Generator.TheVariants.{Finished}
 use Rattle.mon_frames.specs.contracts.call.Call as call
-use Rattle.mon_frames.specs.contracts.call.Generator as generator
+use Rattle.mon_frames.specs.contracts.generator.Generator as generator
 use Rattle.mon_frames.specs.declared.fault.FrameFault.{FrameFault}
 use Rattle.mon_frames.specs.declared.fault.FrameFault.TheVariants.{Full}
 use Rattle.mon_frames.specs.Calls.{called}

@@ -26,16 +26,3 @@ pub struct Call {
     /// How it came there.
     pub origin: Origin,
 }
-
-/// Where a generator stands. Its frame is on the call stack while it is running.
-#[derive(Debug, Drop)]
-pub enum Generator {
-    /// It was made, and has not been resumed.
-    NotStarted(Frame),
-    /// It has yielded a value, and waits behind its `yield`.
-    Suspended(Frame),
-    /// It was resumed, and has not yielded or ended since.
-    Running,
-    /// It has returned or raised.
-    Finished,
-}

@@ -1,5 +1,6 @@
 ghost use Rattle.mon_frames.specs.declared.fault.FrameFault.TheVariants as frame_fault;
 ghost use Rattle.mon_frames.specs.declared.fault.IterFault.TheVariants as iter_fault;
+ghost use Rattle.mon_frames.specs.declared.fault.ResumeFault.TheVariants as resume_fault;
 ghost use Rattle.std.specs.Prelude.{◌≡◌};
 
 use mon_values::fault::Trouble;
@@ -38,5 +39,30 @@ impl From<AllocError> for IterFault {
 
     fn from(_: AllocError) -> IterFault {
         IterFault::Memory
+    }
+}
+
+/// Why a generator does not go on.
+#[derive(Clone, Copy, Debug, PartialEq, Eq, Error)]
+pub enum ResumeFault {
+    #[error("the generator is running")]
+    Running,
+    #[error("the generator is finished")]
+    Finished,
+    /// It is not started, and the value that is sent is not None.
+    #[error("the first value that is sent must be None")]
+    NotNone,
+    /// As many frames stand as may.
+    #[error("too many frames stand")]
+    Full,
+    #[error("out of memory")]
+    Memory,
+}
+
+impl From<AllocError> for ResumeFault {
+    ghost from_gives = { λ _ e. e ≡ resume_fault.Memory };
+
+    fn from(_: AllocError) -> ResumeFault {
+        ResumeFault::Memory
     }
 }

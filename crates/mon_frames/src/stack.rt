@@ -1,4 +1,4 @@
-ghost use Rattle.std.specs.Prelude.{◌≡◌, ◌<◌, ◌≤◌, [], length, reverse, Some, OnOk, OnErr};
+ghost use Rattle.std.specs.Prelude.{◌≡◌, ◌<◌, ◌≤◌, [], length, reverse, nat_lt, Some, OnOk, OnErr};
 ghost use Rattle.std.specs.Option.{option_copied};
 ghost use Rattle.std.specs.Borrow.{sem};
 ghost use Rattle.mon_frames.specs.Lending.{LendsTop};
@@ -6,17 +6,22 @@ ghost use Rattle.mon_frames.specs.Calls.{called, handler_due};
 ghost use Rattle.mon_frames.specs.Views as spec;
 ghost use Rattle.mon_frames.specs.Iterating as iterating;
 ghost use Rattle.mon_frames.specs.Iterating.{iterated, next_of};
-ghost use Rattle.mon_frames.specs.Answers.{AnswersPush, AnswersIter, AnswersNext, Adds};
+ghost use Rattle.mon_frames.specs.Generators.{parked, suspended, resumed, entered, closed};
+ghost use Rattle.mon_frames.specs.Answers.{AnswersPush, AnswersIter, AnswersNext, AnswersPark, AnswersResume, AnswersClose, Adds};
 
-use crate::call::{Call, Generator, Origin};
-use crate::fault::{FrameFault, IterFault};
+use crate::call::{By, Call, Origin};
+use crate::fault::{FrameFault, IterFault, ResumeFault};
 use crate::frame::Frame;
+use crate::generator::{Closing, Generator, finish, is_none, send, take_frame, wait};
 use crate::iteration::Iteration;
 use mon_code::{Code, Handler, Program};
 use mon_values::fault::Trouble;
 use mon_values::value::{Exc, Value};
 use std::alloc::{AllocError, Global};
 use std::marker::Model;
+
+/// The builtin that closes a generator.
+const CLOSE: u8 = 13;
 
 /// The greatest number of frames on the call stack.
 pub const MAX_FRAMES: usize = 1000;
@@ -119,7 +124,7 @@ impl Frames {
         requires { spec.Takes program.now function args.items }
         ensures { AnswersPush result (spec.pushed self.old program.now function args.items) self.old self.new }
     {
-        if self.calls.len() >= MAX_FRAMES {
+        if !has_room(self.calls.as_slice()) {
             return Err(FrameFault::Full);
         }
         match program.code(function) {
@@ -157,6 +162,105 @@ impl Frames {
         }
     }
 
+    /// Takes the innermost frame off as a new generator, which is not started, and gives its number.
+    pub fn park(&mut self) -> Result<u32, AllocError>
+        requires { spec.origin_of self.old.calls ≡ Some Origin.Plain }
+        ensures { AnswersPark result (parked self.old) self.old self.new }
+    {
+        let Ok(number) = u32::try_from(self.generators.len()) else {
+            return Err(AllocError);
+        };
+        self.generators.reserve(1)?;
+        match self.calls.pop() {
+            None => unreachable!(),
+            Some(call) => {
+                self.generators
+                    .push_reserved(Generator::NotStarted(call.frame));
+                Ok(number)
+            }
+        }
+    }
+
+    /// Takes the innermost frame off. Its generator is suspended.
+    pub fn suspend(&mut self)
+        requires { 0 < length self.old.calls }
+        ensures { self.new ≡ suspended self.old }
+    {
+        match self.calls.pop() {
+            None => unreachable!(),
+            Some(call) => wait(&mut self.generators, call),
+        }
+    }
+
+    /// Lets a generator go on with a value, which has to be None where it is not started.
+    pub fn resume(&mut self, generator: u32, sent: Value, by: By) -> Result<(), ResumeFault>
+        requires { generator < length self.old.generators }
+        ensures { AnswersResume result (resumed self.old generator sent by) self.old self.new }
+    {
+        match &self.generators[generator as usize] {
+            Generator::Running => return Err(ResumeFault::Running),
+            Generator::Finished => return Err(ResumeFault::Finished),
+            Generator::NotStarted(_) => {
+                if !is_none(&sent) {
+                    return Err(ResumeFault::NotNone);
+                }
+            }
+            Generator::Suspended(_) => {}
+        }
+        if !has_room(self.calls.as_slice()) {
+            return Err(ResumeFault::Full);
+        }
+        self.calls.reserve(1)?;
+        send(&mut self.generators[generator as usize], sent)?;
+        let Some(frame) = take_frame(&mut self.generators[generator as usize]) else {
+            unreachable!()
+        };
+        let origin = Origin::Generator(generator, by);
+        self.calls.push_reserved(Call { frame, origin });
+        Ok(())
+    }
+
+    /// Puts the frame of a generator on top, for an exception that is thrown into it.
+    pub fn throw_into(&mut self, generator: u32, by: By) -> Result<(), ResumeFault>
+        requires { generator < length self.old.generators }
+        ensures { AnswersResume result (entered self.old generator by) self.old self.new }
+    {
+        match &self.generators[generator as usize] {
+            Generator::Running => return Err(ResumeFault::Running),
+            Generator::Finished => return Err(ResumeFault::Finished),
+            _ => {}
+        }
+        if !has_room(self.calls.as_slice()) {
+            return Err(ResumeFault::Full);
+        }
+        self.calls.reserve(1)?;
+        let Some(frame) = take_frame(&mut self.generators[generator as usize]) else {
+            unreachable!()
+        };
+        let origin = Origin::Generator(generator, by);
+        self.calls.push_reserved(Call { frame, origin });
+        Ok(())
+    }
+
+    /// Closes a generator. One that is suspended is entered, for a GeneratorExit that is thrown into it.
+    pub fn close(&mut self, generator: u32) -> Result<Closing, ResumeFault>
+        requires { generator < length self.old.generators }
+        ensures { AnswersClose result (closed self.old generator) self.old self.new }
+    {
+        match &self.generators[generator as usize] {
+            Generator::Running => Err(ResumeFault::Running),
+            Generator::Finished => Ok(Closing::Closed),
+            Generator::NotStarted(_) => {
+                self.generators[generator as usize] = Generator::Finished;
+                Ok(Closing::Closed)
+            }
+            Generator::Suspended(_) => {
+                self.throw_into(generator, By::Call(CLOSE))?;
+                Ok(Closing::Entered)
+            }
+        }
+    }
+
     /// What a value is gone over with: a new iterator of a text, a tuple or a range; a generator or an iterator itself.
     pub fn iterate(&mut self, v: Value) -> Result<Value, IterFault>
         ensures { AnswersIter result (iterated self.old v) self.old self.new }
@@ -189,6 +293,13 @@ impl Frames {
     }
 }
 
+/// Whether one more frame may stand on these.
+fn has_room(calls: &[Call]) -> bool
+    ensures { result ≡ nat_lt (length calls.now) spec.most_frames }
+{
+    calls.len() < MAX_FRAMES
+}
+
 /// The last exception of the last of these calls that handles one.
 fn last_handled(calls: &[Call]) -> Option<&Exc>
     ensures { option_copied result ≡ spec.handled_in (reverse calls.now) }
@@ -214,20 +325,6 @@ fn next_in(
     match iterators.get_mut(at) {
         None => Ok(None),
         Some(iteration) => iteration.next(alloc),
-    }
-}
-
-/// A generator whose frame leaves the call stack without being suspended is finished.
-fn finish(generators: &mut Vec<Generator>, origin: Origin)
-    ensures { generators.new.items ≡ spec.after_leaving origin generators.old.items }
-{
-    match origin {
-        Origin::Plain => {}
-        Origin::Generator(number, _) => {
-            if let Some(generator) = generators.get_mut(number as usize) {
-                *generator = Generator::Finished;
-            }
-        }
     }
 }
 

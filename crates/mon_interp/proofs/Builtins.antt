@@ -1,6 +1,6 @@
 -- A builtin leaves the call stack as it is.
 use Rattle.std.proofs.Common.{◌≡◌, ℕ, ◌<◌, ◌==◌, Bool, true, false, List, [], ◌∷◌, refl, sym, ap, ◌∙◌, subst, arith}
-use Rattle.std.specs.Prelude.{Some, Result, Ok, Err, nat_lt, if◌then◌else◌}
+use Rattle.std.specs.Prelude.{Some, Result, Ok, Err, nat_lt, drop, if◌then◌else◌}
 use Rattle.mon_values.specs.declared.value.Value.{Value}
 use Rattle.mon_values.specs.declared.value.Value.TheOpen.{Value-F}
 use Rattle.mon_values.specs.declared.value.Value.TheViews.{out-Value}
@@ -83,7 +83,7 @@ below n h = grind arith
 pub named_call : (p : Parts) (v w : FramesView) (number : ℕ) (args : List Value) (names : List (List ℕ)) (given : Given) (made : Move) (f : Frame) → number < 11 → names ≡ p.names → given ≡ (builtin_due number args names v).0
     → w ≡ (builtin_due number args names v).1 → ((g : Frame) → top_of w.calls ≡ Some g → given_move g given w ≡ made) → top_of v.calls ≡ Some f → calls_builtin p v f number args ≡ made
 named_call p v w number args names given made f h named is after gives top =
-    ap (λ (b : Bool). if b then given_move f (builtin_due number args p.names v).0 (builtin_due number args p.names v).1 else (if nat_lt number 14 then method_on v (first_generator v args) else throws_trouble v (trouble 4))) (below number h)
+    ap (λ (b : Bool). if b then given_move f (builtin_due number args p.names v).0 (builtin_due number args p.names v).1 else (if nat_lt number 14 then method_on v f number (first_generator v args) (drop 1 args) else throws_trouble v (trouble 4))) (below number h)
     ∙ ap (λ (n : List (List ℕ)). given_move f (builtin_due number args n v).0 (builtin_due number args n v).1) (sym named)
     ∙ ap (λ (g : Given). given_move f g (builtin_due number args names v).1) (sym is)
     ∙ ap (λ (z : FramesView). given_move f given z) (sym after)

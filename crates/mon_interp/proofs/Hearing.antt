@@ -1,6 +1,7 @@
 -- A step that was done and heard is one of an advance.
 use Rattle.std.proofs.Common.{◌≡◌, ℕ, ◌+◌, Bool, true, false, ◌||◌, cond, IsTrue, List, [], ◌∷◌, ◌++◌, length, take, Option, Some, None, refl, sym, ap, ◌∙◌, subst, arith, append-nil, append_assoc}
-use Rattle.std.specs.Prelude.{◌==◌, if◌then◌else◌}
+use Rattle.std.specs.Prelude.{◌==◌, nat_lt, if◌then◌else◌, Result, Ok, Err}
+use Rattle.std.specs.Result.{is_err}
 use Rattle.std.specs.List.{AllByRecursion}
 use Rattle.mon_events.specs.declared.event.Event.{Event}
 use Rattle.mon_events.specs.declared.event.Slot.{Slot}
@@ -16,6 +17,8 @@ use Rattle.mon_words.specs.Told.{Told, Grows, Loads, Owns}
 use Rattle.mon_words.specs.declared.tally.Load.{Load}
 use Rattle.mon_words.specs.declared.history.Board.{Board}
 use Rattle.mon_frames.specs.declared.frame.Frame.{Frame}
+use Rattle.mon_frames.specs.declared.call.Call.{Call}
+use Rattle.mon_interp.proofs.Standing.{some_call}
 use Rattle.mon_frames.specs.Views.{FramesView}
 use Rattle.mon_recorders.specs.declared.happening.Happening.{Happening}
 use Rattle.mon_recorders.specs.declared.happening.Kind.{Kind}
@@ -31,23 +34,25 @@ use Rattle.mon_hear.proofs.Steps.{all_read, one_step, whole, word_read}
 use Rattle.mon_hear.proofs.Agreeing.{loads_same}
 use Rattle.mon_hear.proofs.Parting.{loads_part, heard_part, part_at, part_global}
 use Rattle.mon_hear.proofs.Passing.{global_read}
+use Rattle.mon_machine.specs.declared.mode.Answer.{Answer}
 use Rattle.mon_machine.specs.declared.mode.Ending.{Ending}
 use Rattle.mon_machine.specs.declared.mode.Mode.{Mode}
 use Rattle.mon_machine.specs.State.{State, Move, with_frame, goes}
 use Rattle.mon_machine.specs.Events as events
 use Rattle.mon_events.specs.Ops.{main_event}
-use Rattle.mon_machine.specs.Events.{Shown, SlotEvent, happens, shown, of_call, local_event, line_events, slot_events, ancillary_events, raise_events, instruction_events}
+use Rattle.mon_machine.specs.Events.{Shown, SlotEvent, happens, shown, of_call, local_event, line_events, slot_events, ancillary_events, throw_events, raise_events, instruction_events, answer_events}
 use Rattle.mon_machine.specs.Moves.{effect}
-use Rattle.mon_machine.specs.Step.{Step, step, executed, performed, with_line, after_ending, stuck, unwinds}
+use Rattle.mon_machine.specs.Step.{Step, step, executed, performed, with_line, after_ending, stuck, unwinds, finished}
 use Rattle.mon_values.specs.declared.value.Exc.{Exc}
+use Rattle.mon_values.specs.declared.value.Value.{Value}
 use Rattle.mon_interp.proofs.Steps.{unwinding, due_unwinds}
 use Rattle.mon_machine.specs.Advances as advances
 use Rattle.mon_machine.specs.Advances.{Progress, Due, RanStep, instruction_due, loads_for, loads_of, location_load, board_at}
 use Rattle.mon_machine.specs.AdvanceLaws.{StandAt}
 use Rattle.mon_machine.proofs.Locating.{events_stand, instruction_at}
 use Rattle.mon_interp.specs.Asking.{asks_for}
-use Rattle.mon_interp.specs.Machines.{HeardStep}
-use Rattle.mon_interp.specs.Moving.{is_raising}
+use Rattle.mon_interp.specs.Machines.{HeardStep, answered_at}
+use Rattle.mon_interp.specs.Moving.{raises}
 use Rattle.mon_interp.specs.declared.events.Place.{Place}
 use Rattle.mon_interp.specs.Places.{IsAt, standing}
 use Rattle.mon_interp.proofs.Listing.{line_at, raise_at}
@@ -111,19 +116,26 @@ ancillary_local : (e : Option Event) (s : Shown) (location : ℕ) (f : Frame) �
 ancillary_local None s location f = refl
 ancillary_local (Some e) s location f = refl
 
-raise_global : (p : Parts) (f : Frame) (ending : Ending) → globals (raise_events p f ending) ≡ raise_events p f ending
-raise_global p f Ending.Continues = refl
-raise_global p f (Ending.Raises e) = refl
-raise_global p f (Ending.Reraises e) = refl
-raise_global p f (Ending.Returns x) = refl
-raise_global p f Ending.Misses = refl
+throw_global : (p : Parts) (e : Exc) (calls : List Call) → globals (throw_events p e calls) ≡ throw_events p e calls
+throw_global p e [] = refl
+throw_global p e (call ∷ calls) = refl
 
-instruction_globals : (p : Parts) (op : Op) (n location : ℕ) (line : Option ℕ) (f : Frame) (m : Move) → globals (instruction_events p op n location line f m) ≡ raise_events p f m.ending
+raise_global : (p : Parts) (f : Frame) (calls : List Call) (ending : Ending) → globals (raise_events p f calls ending) ≡ raise_events p f calls ending
+raise_global p f calls Ending.Continues = refl
+raise_global p f calls (Ending.Raises e) = refl
+raise_global p f calls (Ending.Reraises e) = refl
+raise_global p f calls (Ending.Returns x) = refl
+raise_global p f calls (Ending.Yields x) = refl
+raise_global p f calls Ending.Parks = refl
+raise_global p f calls (Ending.ThrowsIn e) = throw_global p e calls
+raise_global p f calls Ending.Misses = refl
+
+instruction_globals : (p : Parts) (op : Op) (n location : ℕ) (line : Option ℕ) (f : Frame) (m : Move) → globals (instruction_events p op n location line f m) ≡ raise_events p f m.frames.calls m.ending
 instruction_globals p op n location line f m =
     let xs : List Happening = line_events f location line f.line in
     let main : List Happening = slot_events (local_event p op n f m) location f in
     let anc : List Happening = ancillary_events m.ancillary (of_call p n f.stack) location f in
-    let raised : List Happening = raise_events p f m.ending in
+    let raised : List Happening = raise_events p f m.frames.calls m.ending in
     let i : Happening = happens Event.Instruction (Local location Slot.Instruction) f (events.offset f) in
     globals_append xs (i ∷ (main ++ (anc ++ raised)))
     ∙ ap (λ (l : List Happening). l ++ globals (main ++ (anc ++ raised))) (line_local f location line f.line)
@@ -131,29 +143,38 @@ instruction_globals p op n location line f m =
     ∙ ap (λ (l : List Happening). l ++ globals (anc ++ raised)) (slot_local (local_event p op n f m) location f)
     ∙ globals_append anc raised
     ∙ ap (λ (l : List Happening). l ++ globals raised) (ancillary_local m.ancillary (of_call p n f.stack) location f)
-    ∙ raise_global p f m.ending
+    ∙ raise_global p f m.frames.calls m.ending
 
-any_global_raised : (p : Parts) (f : Frame) (ending : Ending) → any_global (raise_events p f ending) ≡ is_raising ending
-any_global_raised p f Ending.Continues = refl
-any_global_raised p f (Ending.Raises e) = refl
-any_global_raised p f (Ending.Reraises e) = refl
-any_global_raised p f (Ending.Returns x) = refl
-any_global_raised p f Ending.Misses = refl
+throw_any : (p : Parts) (e : Exc) (calls : List Call) → any_global (throw_events p e calls) ≡ nat_lt 0 (length calls)
+throw_any p e [] = refl
+throw_any p e (call ∷ calls) =
+    let thrown : any_global (throw_events p e (call ∷ calls)) ≡ true = refl in
+    thrown ∙ sym (some_call (call ∷ calls) (omega arith))
 
-raising : (p : Parts) (op : Op) (n location : ℕ) (line : Option ℕ) (f : Frame) (m : Move) → any_global (instruction_events p op n location line f m) ≡ is_raising m.ending
+any_global_raised : (p : Parts) (f : Frame) (calls : List Call) (ending : Ending) → any_global (raise_events p f calls ending) ≡ raises calls ending
+any_global_raised p f calls Ending.Continues = refl
+any_global_raised p f calls (Ending.Raises e) = refl
+any_global_raised p f calls (Ending.Reraises e) = refl
+any_global_raised p f calls (Ending.Returns x) = refl
+any_global_raised p f calls (Ending.Yields x) = refl
+any_global_raised p f calls Ending.Parks = refl
+any_global_raised p f calls (Ending.ThrowsIn e) = throw_any p e calls
+any_global_raised p f calls Ending.Misses = refl
+
+raising : (p : Parts) (op : Op) (n location : ℕ) (line : Option ℕ) (f : Frame) (m : Move) → any_global (instruction_events p op n location line f m) ≡ raises m.frames.calls m.ending
 raising p op n location line f m =
-    sym (any_global_locals (instruction_events p op n location line f m)) ∙ ap any_global (instruction_globals p op n location line f m) ∙ any_global_raised p f m.ending
+    sym (any_global_locals (instruction_events p op n location line f m)) ∙ ap any_global (instruction_globals p op n location line f m) ∙ any_global_raised p f m.frames.calls m.ending
 
 -- ---- an instruction that was heard
 
 -- without an event of a slot but LINE: the others are not asked for
 pub plain_part : (p : Parts) (op : Op) (n location : ℕ) (line : Option ℕ) (f : Frame) (m : Move) (word global : ℕ) (xs : List Happening) → asks_for word Slot.Instruction ≡ false → asks_for word Slot.Main ≡ false
-    → IsAskedPart word global xs (line_events f location line f.line ++ raise_events p f m.ending) → IsAskedPart word global xs (instruction_events p op n location line f m)
+    → IsAskedPart word global xs (line_events f location line f.line ++ raise_events p f m.frames.calls m.ending) → IsAskedPart word global xs (instruction_events p op n location line f m)
 plain_part p op n location line f m word global xs unset none h =
     let before : List Happening = line_events f location line f.line in
     let main : List Happening = slot_events (local_event p op n f m) location f in
     let anc : List Happening = ancillary_events m.ancillary (of_call p n f.stack) location f in
-    let raised : List Happening = raise_events p f m.ending in
+    let raised : List Happening = raise_events p f m.frames.calls m.ending in
     let i : Happening = happens Event.Instruction (Local location Slot.Instruction) f (events.offset f) in
     part_insert word global xs before (i ∷ []) (main ++ (anc ++ raised)) (instruction_unasked word global f location (events.offset f) unset)
     (part_insert word global xs before main (anc ++ raised) (main_unasked word global f location (main_event op n) (shown p op n f m.frames.calls) none)
@@ -163,19 +184,19 @@ plain_part p op n location line f m word global xs unset none h =
 pub heard_asked : (p : Parts) (c : Code) (op : Op) (l : Location) (f : Frame) (v : FramesView) (m : Move) (word global location : ℕ) (a b : Told) (old new : Progress) (xs : List Happening)
     → cell_of word ≡ cell_at (after a.first a.seen) location → location ≡ c.first + f.index
     → effect p c op l.argument (with_line l.line f) (with_frame v (with_line l.line f)) ≡ m → after_ending p m.frames m.ending ≡ new.state → new.printed ≡ old.printed ++ m.printed → new.steps ≡ old.steps + 1
-    → IsAskedPart word global xs (instruction_events p op l.argument location l.line f m) → (IsTrue (is_raising m.ending) → global ≡ (after a.first a.seen).global)
+    → IsAskedPart word global xs (instruction_events p op l.argument location l.line f m) → (IsTrue (raises m.frames.calls m.ending) → global ≡ (after a.first a.seen).global)
     → Heard old.steps xs a b old.records new.records old.disables new.disables
-    → b.tally.loads ≡ a.tally.loads ++ (cond (is_raising m.ending) (Load.Global ∷ []) [] ++ callback_loads word global xs 6) → Retiring a b location word
+    → b.tally.loads ≡ a.tally.loads ++ (cond (raises m.frames.calls m.ending) (Load.Global ∷ []) [] ++ callback_loads word global xs 6) → Retiring a b location word
     → HeardStep (executed p c op l f v) location word a b old new
 heard_asked p c op l f v m word global location a b old new xs here number e state printed steps part known heard loaded retired =
     let d : Board = after a.first a.seen in
     let all : List Happening = instruction_events p op l.argument location l.line f m in
-    let raises : any_global all ≡ is_raising m.ending = raising p op l.argument location l.line f m in
-    let asked : IsTrue (any_global all) → global ≡ d.global = λ y. known (sym raises ∙ y) in
+    let hears : any_global all ≡ raises m.frames.calls m.ending = raising p op l.argument location l.line f m in
+    let asked : IsTrue (any_global all) → global ≡ d.global = λ y. known (sym hears ∙ y) in
     let at : AreAt location all = instruction_at p location f op l.argument l.line m in
-    let loads : cond (is_raising m.ending) (Load.Global ∷ []) [] ++ callback_loads word global xs 6 ≡ loads word d.global all =
+    let loads : cond (raises m.frames.calls m.ending) (Load.Global ∷ []) [] ++ callback_loads word global xs 6 ≡ loads word d.global all =
     let x : callback_loads word global xs 6 ≡ callback_loads word d.global all 6 = loads_part word global xs all part ∙ loads_same word global d.global all asked in
-    (λ i. cond (sym raises i) (Load.Global ∷ []) [] ++ x i) in
+    (λ i. cond (sym hears i) (Load.Global ∷ []) [] ++ x i) in
     let done : HeardStep (performed p op l location f m) location word a b old new = record {
       state = sym state;
       printed = printed;
@@ -187,33 +208,78 @@ heard_asked p c op l f v m word global location a b old new xs here number e sta
     subst (λ (x : Move). HeardStep (performed p op l (c.first + f.index) f x) location word a b old new) (sym e)
     (subst (λ k. HeardStep (performed p op l k f m) location word a b old new) number done)
 
+-- ---- a call that has its answer
+
+answer_any : (p : Parts) (a : Answer) (location : ℕ) (f : Frame) (r : Result Value Exc) → any_global (answer_events p a location f r) ≡ is_err r
+answer_any p a location f (Ok x) = refl
+answer_any p a location f (Err e) = refl
+
+pub answer_here : (p : Parts) (a : Answer) (location : ℕ) (f : Frame) (r : Result Value Exc) → AreAt location (answer_events p a location f r)
+answer_here p a location f (Ok x) = (refl, tt)
+answer_here p a location f (Err e) = (refl, (tt, tt))
+
+-- the global word is in hand where an event that was listed is enabled by it
+pub known_answer : (p : Parts) (a : Answer) (location : ℕ) (f : Frame) (r : Result Value Exc) (word global g : ℕ) (xs : List Happening) → IsAskedPart word global xs (answer_events p a location f r) → (IsTrue (is_err r) → global ≡ g) → IsTrue (any_global xs) → global ≡ g
+known_answer p a location f r word global g xs part known y = known (sym (answer_any p a location f r) ∙ part_global word global xs (answer_events p a location f r) part y)
+
+-- its finish step is heard by those of its events that are asked for
+pub heard_answer : (p : Parts) (answer : Answer) (f : Frame) (v : FramesView) (word global location : ℕ) (a b : Told) (old new : Progress) (xs : List Happening)
+    → cell_of word ≡ cell_at (after a.first a.seen) location → finished v f answer.result ≡ new.state → new.printed ≡ old.printed → new.steps ≡ old.steps + 1
+    → IsAskedPart word global xs (answer_events p answer location f answer.result) → (IsTrue (is_err answer.result) → global ≡ (after a.first a.seen).global)
+    → Heard old.steps xs a b old.records new.records old.disables new.disables
+    → b.tally.loads ≡ a.tally.loads ++ (cond (is_err answer.result) (Load.Global ∷ []) [] ++ callback_loads word global xs 6) → Retiring a b location word
+    → HeardStep (answered_at p answer location f v) location word a b old new
+heard_answer p answer f v word global location a b old new xs here state printed steps part known heard loaded retired =
+    let d : Board = after a.first a.seen in
+    let all : List Happening = answer_events p answer location f answer.result in
+    let raised : any_global all ≡ is_err answer.result = answer_any p answer location f answer.result in
+    let asked : IsTrue (any_global all) → global ≡ d.global = λ y. known (sym raised ∙ y) in
+    let loads : cond (is_err answer.result) (Load.Global ∷ []) [] ++ callback_loads word global xs 6 ≡ loads word d.global all =
+    let x : callback_loads word global xs 6 ≡ callback_loads word d.global all 6 = loads_part word global xs all part ∙ loads_same word global d.global all asked in
+    (λ i. cond (sym raised i) (Load.Global ∷ []) [] ++ x i) in
+    record {
+      state = sym state;
+      printed = printed ∙ sym (append-nil old.printed);
+      steps = steps;
+      heard = heard_part old.steps word global xs all a b old.records new.records old.disables new.disables (all_read d word location all here (answer_here p answer location f answer.result)) asked part heard;
+      loads = loaded ∙ ap (λ (x : List Load). a.tally.loads ++ x) loads;
+      retired = retired;
+    }
+
 -- nothing to hear
 pub heard_none : (i : ℕ) (a b : Told) (rs : List Record) (ds : List Disabled) → Grows a b [] → Heard i [] a b rs rs ds ds
 heard_none i a b rs ds g = record { grows = g; records = sym (append-nil rs); disables = sym (append-nil ds) }
 
 -- the global word is in hand where an event that was listed is enabled by it
-pub known_part : (p : Parts) (op : Op) (n location : ℕ) (line : Option ℕ) (f : Frame) (m : Move) (word global g : ℕ) (xs : List Happening) → IsAskedPart word global xs (instruction_events p op n location line f m) → (IsTrue (is_raising m.ending) → global ≡ g) → IsTrue (any_global xs) → global ≡ g
+pub known_part : (p : Parts) (op : Op) (n location : ℕ) (line : Option ℕ) (f : Frame) (m : Move) (word global g : ℕ) (xs : List Happening) → IsAskedPart word global xs (instruction_events p op n location line f m) → (IsTrue (raises m.frames.calls m.ending) → global ≡ g) → IsTrue (any_global xs) → global ≡ g
 known_part p op n location line f m word global g xs part known y =
     known (sym (raising p op n location line f m) ∙ part_global word global xs (instruction_events p op n location line f m) part y)
 
 -- LINE and what is raised, as listed by the place alone
-pub plain_listed : (p : Parts) (place : Place) (f : Frame) (location : ℕ) (line last : Option ℕ) (ending : Ending) → IsAt place f → last ≡ f.line
-    → line_events (standing place) location line last ++ raise_events p (standing place) ending ≡ line_events f location line f.line ++ raise_events p f ending
-plain_listed p place f location line last ending at is =
+pub plain_listed : (p : Parts) (place : Place) (f : Frame) (location : ℕ) (line last : Option ℕ) (calls : List Call) (ending : Ending) → IsAt place f → last ≡ f.line
+    → line_events (standing place) location line last ++ raise_events p (standing place) calls ending ≡ line_events f location line f.line ++ raise_events p f calls ending
+plain_listed p place f location line last calls ending at is =
     let x : line_events (standing place) location line last ≡ line_events f location line f.line = line_at place f at location line last ∙ ap (λ (l : Option ℕ). line_events f location line l) is in
-    let y : raise_events p (standing place) ending ≡ raise_events p f ending = raise_at place f at p ending in
+    let y : raise_events p (standing place) calls ending ≡ raise_events p f calls ending = raise_at place f at p calls ending in
     λ i. x i ++ y i
 
 at_append : (location : ℕ) (xs ys : List Happening) → AreAt location xs → AreAt location ys → AreAt location (xs ++ ys)
 at_append location [] ys h k = k
 at_append location (x ∷ xs) ys h k = (h.0, at_append location xs ys h.1 k)
 
-raise_here : (p : Parts) (f : Frame) (location : ℕ) (ending : Ending) → AreAt location (raise_events p f ending)
-raise_here p f location Ending.Continues = tt
-raise_here p f location (Ending.Raises e) = (tt, tt)
-raise_here p f location (Ending.Reraises e) = (tt, tt)
-raise_here p f location (Ending.Returns x) = tt
-raise_here p f location Ending.Misses = tt
+throw_here : (p : Parts) (location : ℕ) (e : Exc) (calls : List Call) → AreAt location (throw_events p e calls)
+throw_here p location e [] = tt
+throw_here p location e (call ∷ calls) = (tt, (tt, tt))
+
+raise_here : (p : Parts) (f : Frame) (location : ℕ) (calls : List Call) (ending : Ending) → AreAt location (raise_events p f calls ending)
+raise_here p f location calls Ending.Continues = tt
+raise_here p f location calls (Ending.Raises e) = (tt, tt)
+raise_here p f location calls (Ending.Reraises e) = (tt, tt)
+raise_here p f location calls (Ending.Returns x) = tt
+raise_here p f location calls (Ending.Yields x) = tt
+raise_here p f location calls Ending.Parks = tt
+raise_here p f location calls (Ending.ThrowsIn e) = throw_here p location e calls
+raise_here p f location calls Ending.Misses = tt
 
 -- LINE alone
 line_choice_here : (f : Frame) (location line : ℕ) (same : Bool) → AreAt location (if same then [] else happens Event.Line (Local location Slot.Line) f line ∷ [])
@@ -231,9 +297,11 @@ line_not_global f location line last = sym (any_global_locals (line_events f loc
 pub line_at_location : (word global location : ℕ) (f : Frame) (line last : Option ℕ) (xs : List Happening) → IsAskedPart word global xs (line_events f location line last) → AreAt location xs
 line_at_location word global location f line last xs part = part_at word global location xs (line_events f location line last) part (line_here f location line last)
 
-pub plain_at_location : (p : Parts) (word global location : ℕ) (f : Frame) (line last : Option ℕ) (ending : Ending) (xs : List Happening) → IsAskedPart word global xs (line_events f location line last ++ raise_events p f ending) → AreAt location xs
-plain_at_location p word global location f line last ending xs part =
-    part_at word global location xs (line_events f location line last ++ raise_events p f ending) part (at_append location (line_events f location line last) (raise_events p f ending) (line_here f location line last) (raise_here p f location ending))
+pub plain_at_location : (p : Parts) (word global location : ℕ) (f : Frame) (line last : Option ℕ) (calls : List Call) (ending : Ending) (xs : List Happening)
+    → IsAskedPart word global xs (line_events f location line last ++ raise_events p f calls ending) → AreAt location xs
+plain_at_location p word global location f line last calls ending xs part =
+    part_at word global location xs (line_events f location line last ++ raise_events p f calls ending) part
+    (at_append location (line_events f location line last) (raise_events p f calls ending) (line_here f location line last) (raise_here p f location calls ending))
 
 pub line_known : (word global location : ℕ) (f : Frame) (line last : Option ℕ) (xs : List Happening) (g : ℕ) → IsAskedPart word global xs (line_events f location line last) → IsTrue (any_global xs) → 0 ≡ g
 line_known word global location f line last xs g part y = absurd (cc (part_global word global xs (line_events f location line last) part y, line_not_global f location line last))

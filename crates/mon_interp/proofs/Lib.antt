@@ -13,6 +13,7 @@ pub mod Operands
 pub mod Performing
 pub mod Placed
 pub mod Results
+pub mod Resuming
 pub mod Settling
 pub mod Standing
 pub mod Steps

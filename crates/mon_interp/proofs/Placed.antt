@@ -1,10 +1,12 @@
 -- A step where the innermost frame stands at a location.
-use Rattle.std.proofs.Common.{◌≡◌, ℕ, ◌+◌, ◌<◌, Bool, true, false, cond, IsTrue, List, [], ◌∷◌, ◌++◌, length, map, refl, sym, ap, ◌∙◌, subst, Some, None, append-nil}
+use Rattle.std.proofs.Common.{◌≡◌, ℕ, ◌+◌, ◌<◌, ◌≤◌, arith, Bool, true, false, cond, IsTrue, List, [], ◌∷◌, ◌++◌, length, map, refl, sym, ap, ◌∙◌, subst, Some, None, append-nil}
 use Rattle.mon_values.specs.declared.value.Exc.{Exc}
 use Rattle.mon_words.specs.declared.tally.Load.{Load}
 use Rattle.mon_words.proofs.Growing.{grows_refl}
 use Rattle.mon_recorders.specs.declared.happening.Happening.{Happening}
 use Rattle.std.specs.Prelude.{Option}
+use Rattle.std.proofs.lemmas.List.{length-map}
+use Rattle.mon_words.specs.declared.history.Cell.{Cell}
 use Rattle.mon_hear.specs.Words.{loads, callback_loads, global_load, any_global, IsAskedPart}
 use Rattle.mon_hear.specs.Hearing.{UnwindingHeard, Retiring, is_due}
 use Rattle.mon_hear.proofs.Agreeing.{loads_same}
@@ -21,6 +23,8 @@ use Rattle.mon_words.specs.declared.tally.Retirement.{Retirement}
 use Rattle.mon_words.specs.History.{after, cell_at, base_in, Begins}
 use Rattle.mon_words.specs.Told.{Told, Grows, Loads, Owns, Polls}
 use Rattle.mon_words.specs.declared.history.Mark.{Mark}
+use Rattle.mon_frames.specs.Views.{FramesView}
+use Rattle.mon_machine.specs.declared.mode.Answer.{Answer}
 use Rattle.mon_machine.specs.declared.mode.Mode.{Mode}
 use Rattle.mon_machine.specs.declared.mode.Mode.TheVariants.{Run}
 use Rattle.mon_machine.specs.State.{State, goes}
@@ -28,10 +32,14 @@ use Rattle.mon_machine.specs.Step.{Step, step, executed, stuck, unwinds}
 use Rattle.mon_machine.specs.Advances.{Progress, Due, Stays, instruction_due, polls_once, board_at}
 use Rattle.mon_machine.proofs.Advancing.{step_polled, stays_refl, stays_poll}
 use Rattle.mon_interp.specs.declared.events.Place.{Place}
-use Rattle.mon_interp.specs.Machines.{HeardStep, StandsHere, DoneStep, StepOrStop, PolledDue, RanUnwinding}
+use Rattle.mon_interp.specs.Machines.{HeardStep, StandsHere, DoneStep, StepOrStop, PolledDue, RanUnwinding, finishing, answered_at}
 use Rattle.mon_interp.specs.Retires.{RetiredOnce, IsLawful, tries_of, not_loaded}
-use Rattle.mon_interp.proofs.Steps.{no_op, has_op, due_here, due_unwinds, unwinding, unwinds_silent, polled_no, polled_yes}
+use Rattle.mon_interp.proofs.Steps.{no_op, has_op, due_here, due_unwinds, unwinding, unwinds_silent, polled_no, polled_yes, finishing_here, finish_due_here, finishing_unpolled}
 use Rattle.mon_interp.proofs.Hearing.{ran_located, ran_elsewhere, ran_stuck, heard_stuck, unheard_still, unwinding_global, no_loads}
+
+-- the location of the innermost frame has a word
+pub inside_board : (bases : List ℕ) (cells : List Cell) (first index count : ℕ) → first + count ≤ length bases → index < count → map base_in cells ≡ bases → first + index < length cells
+inside_board bases cells first index count inside within same = omega (arith, inside, within, ap length same, length-map cells base_in)
 
 pub here_due : (p : Parts) (c : Code) (l : Location) (place : Place) (s : State) (h : StandsHere p c l place s) → s.mode ≡ Run → instruction_due p s ≡ Some (record { location = c.first + h.frame.index; is_safe = l.is_safe })
 here_due p c l place s h run = due_here p s h.frame c l run h.top h.code h.location
@@ -65,19 +73,43 @@ retired_elsewhere p s at a b none same = record {
   tries = same ∙ sym (append-nil a.tally.retirements) ∙ ap (λ (d : Option Due). a.tally.retirements ++ tries_of d not_loaded) (sym none);
 }
 
--- a step at a location whose word was loaded
+-- a step at a location that is due, whose word was loaded
+ran_due : (p : Parts) (due : Due) (word : ℕ) (a mid b : Told) (old new : Progress) → goes old.state.mode ≡ true → Owns a → instruction_due p old.state ≡ Some due → Loads a due.location word mid
+    → HeardStep (step p old.state) due.location word mid b old new → DoneStep p a b old new
+ran_due p due word a mid b old new on own here loads done = record {
+  at = length mid.seen;
+  ran = ran_located p due word a mid b old new own on loads here done;
+  retired = retired_located p old.state due word a mid b loads done.heard.grows.begins here done.retired;
+}
+
+-- an instruction's
 pub ran_at : (p : Parts) (c : Code) (l : Location) (place : Place) (word : ℕ) (a mid b : Told) (old new : Progress) → StandsHere p c l place old.state → old.state.mode ≡ Run → Owns a → Loads a place.location word mid
     → HeardStep (step p old.state) place.location word mid b old new → DoneStep p a b old new
 ran_at p c l place word a mid b old new h run own loaded heard =
     let due : Due = record { location = c.first + h.frame.index; is_safe = l.is_safe } in
     let here : instruction_due p old.state ≡ Some due = here_due p c l place old.state h run in
-    let loads : Loads a due.location word mid = subst (λ n. Loads a n word mid) h.number loaded in
-    let done : HeardStep (step p old.state) due.location word mid b old new = subst (λ n. HeardStep (step p old.state) n word mid b old new) h.number heard in
-    record {
-      at = length mid.seen;
-      ran = ran_located p due word a mid b old new own (ap goes run) loads here done;
-      retired = retired_located p old.state due word a mid b loads done.heard.grows.begins here done.retired;
-    }
+    ran_due p due word a mid b old new (ap goes run) own here (subst (λ n. Loads a n word mid) h.number loaded) (subst (λ n. HeardStep (step p old.state) n word mid b old new) h.number heard)
+
+-- the finish step of a call
+finishing_heard : (s : Step) (location word : ℕ) (answer : Answer) (a b : Told) (old new : Progress) → HeardStep s location word a b old new → HeardStep s location word a b (finishing answer old) new
+finishing_heard s location word answer a b old new h = record { state = h.state; printed = h.printed; steps = h.steps; heard = h.heard; loads = h.loads; retired = h.retired }
+
+pub ran_finish : (p : Parts) (c : Code) (l : Location) (place : Place) (word : ℕ) (answer : Answer) (a mid b : Told) (old new : Progress) (h : StandsHere p c l place old.state) → Owns a → Loads a place.location word mid
+    → HeardStep (answered_at p answer place.location h.frame old.state.frames) place.location word mid b old new → DoneStep p a b (finishing answer old) new
+ran_finish p c l place word answer a mid b old new h own loaded heard =
+    let v : FramesView = old.state.frames in
+    let due : Due = record { location = c.first + h.frame.index; is_safe = false } in
+    let here : instruction_due p (finishing answer old).state ≡ Some due = finish_due_here p v answer h.frame c l h.top h.code h.location in
+    let done : HeardStep (answered_at p answer due.location h.frame v) due.location word mid b old new = subst (λ n. HeardStep (answered_at p answer n h.frame v) n word mid b old new) h.number heard in
+    ran_due p due word a mid b (finishing answer old) new refl own here (subst (λ n. Loads a n word mid) h.number loaded)
+    (subst (λ (s : Step). HeardStep s due.location word mid b (finishing answer old) new) (sym (finishing_here p v answer h.frame c l h.top h.code h.location))
+    (finishing_heard (answered_at p answer due.location h.frame v) due.location word answer mid b old new done))
+
+-- a finish step polls never
+pub answered_step : (p : Parts) (answer : Answer) (a b : Told) (old new : Progress) (m : List Mark) → old.state.mode ≡ Mode.Finish answer → Grows a b m → DoneStep p a b (finishing answer old) new → StepOrStop true p a b old new
+answered_step p answer a b old new m is grows done =
+    subst (λ (mode : Mode). StepOrStop true p a b (record old { state = record { frames = old.state.frames; mode = mode } }) new) (sym is)
+    (done, polled_no p (finishing answer old).state a b m (finishing_unpolled p old.state.frames answer) grows)
 
 pub stuck_at : (p : Parts) (c : Code) (l : Location) (place : Place) (word : ℕ) (a mid b : Told) (old new : Progress) → StandsHere p c l place old.state → old.state.mode ≡ Run → map base_in a.first.cells ≡ p.bases → place.location < length a.first.cells
     → Loads a place.location word mid → None ≡ op_of (cell_of word).base → new ≡ record old { state = record { frames = old.state.frames; mode = Mode.Stuck }; steps = old.steps + 1 }
@@ -144,6 +176,15 @@ nowhere p a old new own run none stands is = (
   },
   polled_no p old.state a a [] (ap polls_once none) (grows_refl a),
 )
+
+-- nor is anything loaded where the call stands nowhere
+pub finish_nowhere : (p : Parts) (answer : Answer) (a : Told) (old new : Progress) → Owns a → instruction_due p (finishing answer old).state ≡ None → step p (finishing answer old).state ≡ stuck old.state.frames
+    → new ≡ record old { state = record { frames = old.state.frames; mode = Mode.Stuck }; steps = old.steps + 1 } → DoneStep p a a (finishing answer old) new
+finish_nowhere p answer a old new own none stands is = record {
+  at = length a.seen;
+  ran = ran_stuck p a (finishing answer old) new own refl none stands is;
+  retired = retired_elsewhere p (finishing answer old).state (length a.seen) a a none refl;
+}
 
 -- a step of the search for a handler
 pub unwound : (p : Parts) (e : Exc) (mode : Mode) (a b : Told) (old new : Progress) → Owns a → old.state.mode ≡ Mode.Unwind e → Grows a b [] → RanUnwinding p e a b (record old { state = record { frames = old.state.frames; mode = mode } }) new → StepOrStop true p a b old new

@@ -13,19 +13,22 @@ use Rattle.mon_words.specs.declared.history.Cell.{Cell}
 use Rattle.mon_words.specs.Words.{cell_of}
 use Rattle.mon_words.specs.History.{cell_at, no_cell, base_in}
 use Rattle.mon_frames.specs.declared.frame.Frame.{Frame}
+use Rattle.mon_frames.specs.declared.call.By.TheVariants as by
 use Rattle.mon_frames.specs.declared.call.Call.{Call}
 use Rattle.mon_frames.specs.declared.call.Origin.{Origin}
 use Rattle.mon_frames.specs.declared.call.Origin.TheVariants.{Plain, Generator as Generated}
 use Rattle.mon_frames.specs.Calls.{handler_due}
 use Rattle.mon_frames.specs.Views.{FramesView, top_of, without_top}
+use Rattle.mon_machine.specs.declared.mode.Answer.{Answer}
 use Rattle.mon_machine.specs.declared.mode.Mode.{Mode}
-use Rattle.mon_machine.specs.declared.mode.Mode.TheVariants.{Run, Unwind}
+use Rattle.mon_machine.specs.declared.mode.Mode.TheVariants.{Run, Unwind, Finish}
 use Rattle.mon_values.specs.declared.value.Exc.{Exc}
 use Rattle.mon_machine.specs.State.{State}
 use Rattle.mon_words.specs.Told.{Told, Grows, Polls}
 use Rattle.mon_words.specs.declared.history.Mark.{Mark}
-use Rattle.mon_machine.specs.Advances.{due_at, due_in, due_in_top, due_in_mode, instruction_due, polls_once, PolledOnce}
-use Rattle.mon_machine.specs.Step.{step, in_mode, in_code, at_location, runs_top, executed, unwinds, unwinds_from, goes_out, stuck}
+use Rattle.mon_machine.specs.Advances.{Due, due_at, due_in, due_in_top, due_in_mode, unpolled, instruction_due, polls_once, PolledOnce}
+use Rattle.mon_machine.specs.Step.{step, in_mode, in_code, at_location, runs_top, executed, unwinds, unwinds_from, goes_out, stuck, finishes, finishes_in, finishes_at}
+use Rattle.mon_interp.specs.Machines.{answered_at}
 
 runs : (p : Parts) (s : State) → s.mode ≡ Run → step p s ≡ runs_top p s.frames s.frames.calls
 unfolding step
@@ -34,6 +37,10 @@ runs p s e = ap (λ (m : Mode). in_mode p s.frames m) e
 pub unwinding : (p : Parts) (s : State) (e : Exc) → s.mode ≡ Unwind e → step p s ≡ unwinds p s.frames e s.frames.calls
 unfolding step
 unwinding p s e is = ap (λ (m : Mode). in_mode p s.frames m) is
+
+pub finishing_step : (p : Parts) (v : FramesView) (a : Answer) → step p (record { frames = v; mode = Finish a }) ≡ finishes p v a v.calls
+unfolding step
+finishing_step p v a = refl
 
 no_top : (p : Parts) (v : FramesView) (calls : List Call) → length calls ≡ 0 → runs_top p v calls ≡ stuck v
 no_top p v [] e = refl
@@ -121,6 +128,64 @@ pub due_here : (p : Parts) (s : State) (f : Frame) (c : Code) (l : Location) →
     → instruction_due p s ≡ Some (record { location = c.first + f.index; is_safe = l.is_safe })
 due_here p s f c l e top n k = due_of_code p s f c e top n ∙ ap (λ (o : Option Location). due_at (c.first + f.index) o) (sym k)
 
+pub due_finishing : (p : Parts) (v : FramesView) (a : Answer) → instruction_due p (record { frames = v; mode = Finish a }) ≡ unpolled (due_in_top p v.calls)
+unfolding instruction_due
+due_finishing p v a = refl
+
+unpolled_never : (due : Option Due) → polls_once (unpolled due) ≡ 0
+unpolled_never None = refl
+unpolled_never (Some due) = refl
+
+pub finishing_unpolled : (p : Parts) (v : FramesView) (a : Answer) → polls_once (instruction_due p (record { frames = v; mode = Finish a })) ≡ 0
+finishing_unpolled p v a = ap polls_once (due_finishing p v a) ∙ unpolled_never (due_in_top p v.calls)
+
+-- ---- the finish step of a call, by what stands at the location of the innermost frame
+
+finishing_no_top : (p : Parts) (v : FramesView) (a : Answer) (calls : List Call) → length calls ≡ 0 → finishes p v a calls ≡ stuck v
+finishing_no_top p v a [] e = refl
+finishing_no_top p v a (call ∷ calls) e = absurd (omega (arith, e))
+
+pub finishing_no_frame : (p : Parts) (v : FramesView) (a : Answer) → length v.calls ≡ 0 → step p (record { frames = v; mode = Finish a }) ≡ stuck v
+finishing_no_frame p v a e = finishing_step p v a ∙ finishing_no_top p v a v.calls e
+
+finishing_by_top : (p : Parts) (v : FramesView) (a : Answer) (calls : List Call) (f : Frame) → top_of calls ≡ Some f → finishes p v a calls ≡ finishes_in p v a (slice_get p.codes f.code) f
+finishing_by_top p v a [] f e = absurd cc
+finishing_by_top p v a (call ∷ calls) f e = let same : call.frame ≡ f = cc in ap (λ (g : Frame). finishes_in p v a (slice_get p.codes g.code) g) same
+
+finishing_by_frame : (p : Parts) (v : FramesView) (a : Answer) (f : Frame) → top_of v.calls ≡ Some f → step p (record { frames = v; mode = Finish a }) ≡ finishes_in p v a (slice_get p.codes f.code) f
+finishing_by_frame p v a f top = finishing_step p v a ∙ finishing_by_top p v a v.calls f top
+
+pub finishing_no_code : (p : Parts) (v : FramesView) (a : Answer) (f : Frame) → top_of v.calls ≡ Some f → None ≡ slice_get p.codes f.code → step p (record { frames = v; mode = Finish a }) ≡ stuck v
+finishing_no_code p v a f top n = finishing_by_frame p v a f top ∙ ap (λ (o : Option Code). finishes_in p v a o f) (sym n)
+
+finishing_found : (p : Parts) (v : FramesView) (a : Answer) (f : Frame) (c : Code) → top_of v.calls ≡ Some f → Some c ≡ slice_get p.codes f.code → step p (record { frames = v; mode = Finish a }) ≡ finishes_at p v a c f (location_at c f.index)
+finishing_found p v a f c top n = finishing_by_frame p v a f top ∙ ap (λ (o : Option Code). finishes_in p v a o f) (sym n)
+
+pub finishing_no_location : (p : Parts) (v : FramesView) (a : Answer) (f : Frame) (c : Code) → top_of v.calls ≡ Some f → Some c ≡ slice_get p.codes f.code → None ≡ slice_get c.locations f.index → step p (record { frames = v; mode = Finish a }) ≡ stuck v
+finishing_no_location p v a f c top n l = finishing_found p v a f c top n ∙ ap (λ (o : Option Location). finishes_at p v a c f o) (sym l)
+
+pub finishing_here : (p : Parts) (v : FramesView) (a : Answer) (f : Frame) (c : Code) (l : Location) → top_of v.calls ≡ Some f → Some c ≡ slice_get p.codes f.code → Some l ≡ slice_get c.locations f.index
+    → step p (record { frames = v; mode = Finish a }) ≡ answered_at p a (c.first + f.index) f v
+finishing_here p v a f c l top n k = finishing_found p v a f c top n ∙ ap (λ (o : Option Location). finishes_at p v a c f o) (sym k)
+
+-- and its location is due
+
+pub finish_due_no_frame : (p : Parts) (v : FramesView) (a : Answer) → length v.calls ≡ 0 → instruction_due p (record { frames = v; mode = Finish a }) ≡ None
+finish_due_no_frame p v a e = due_finishing p v a ∙ ap unpolled (due_no_top p v.calls e)
+
+pub finish_due_no_code : (p : Parts) (v : FramesView) (a : Answer) (f : Frame) → top_of v.calls ≡ Some f → None ≡ slice_get p.codes f.code → instruction_due p (record { frames = v; mode = Finish a }) ≡ None
+finish_due_no_code p v a f top n = due_finishing p v a ∙ ap unpolled (due_by_top p v.calls f top ∙ ap (λ (o : Option Code). due_in o f.index) (sym n))
+
+finish_due_of_code : (p : Parts) (v : FramesView) (a : Answer) (f : Frame) (c : Code) → top_of v.calls ≡ Some f → Some c ≡ slice_get p.codes f.code → instruction_due p (record { frames = v; mode = Finish a }) ≡ unpolled (due_at (c.first + f.index) (slice_get c.locations f.index))
+finish_due_of_code p v a f c top n = due_finishing p v a ∙ ap unpolled (due_by_top p v.calls f top ∙ ap (λ (o : Option Code). due_in o f.index) (sym n))
+
+pub finish_due_no_location : (p : Parts) (v : FramesView) (a : Answer) (f : Frame) (c : Code) → top_of v.calls ≡ Some f → Some c ≡ slice_get p.codes f.code → None ≡ slice_get c.locations f.index → instruction_due p (record { frames = v; mode = Finish a }) ≡ None
+finish_due_no_location p v a f c top n l = finish_due_of_code p v a f c top n ∙ ap (λ (o : Option Location). unpolled (due_at (c.first + f.index) o)) (sym l)
+
+pub finish_due_here : (p : Parts) (v : FramesView) (a : Answer) (f : Frame) (c : Code) (l : Location) → top_of v.calls ≡ Some f → Some c ≡ slice_get p.codes f.code → Some l ≡ slice_get c.locations f.index
+    → instruction_due p (record { frames = v; mode = Finish a }) ≡ Some (record { location = c.first + f.index; is_safe = false })
+finish_due_here p v a f c l top n k = finish_due_of_code p v a f c top n ∙ ap (λ (o : Option Location). unpolled (due_at (c.first + f.index) o)) (sym k)
+
 -- ---- polls
 
 pub polled_no : (p : Parts) (s : State) (a b : Told) (m : List Mark) → polls_once (instruction_due p s) ≡ 0 → Grows a b m → PolledOnce p s a b
@@ -136,15 +201,15 @@ polled_yes p s a b c m one poll g = record {
 }
 
 -- the search for a handler prints nothing
-goes_out_silent : (p : Parts) (v : FramesView) (calls : List Call) (e : Exc) (f : Frame) → (goes_out p v calls e f).printed ≡ []
-goes_out_silent p v [] e f = refl
-goes_out_silent p v (call ∷ calls) e f = refl
+goes_out_silent : (p : Parts) (v : FramesView) (calls : List Call) (o : Origin) (e : Exc) (f : Frame) → (goes_out p v calls o e f).printed ≡ []
+goes_out_silent p v [] o e f = refl
+goes_out_silent p v (call ∷ calls) (Generated number (by.Call builtin)) e f = refl
+goes_out_silent p v (call ∷ calls) (Generated number by.For) e f = refl
+goes_out_silent p v (call ∷ calls) Plain e f = refl
 
 unwinds_from_silent : (p : Parts) (v : FramesView) (origin : Origin) (e : Exc) (f : Frame) (h : Option Handler) → (unwinds_from p v origin e f h).printed ≡ []
-unwinds_from_silent p v Plain e f None = goes_out_silent p (without_top v) (without_top v).calls e f
-unwinds_from_silent p v (Generated number by) e f None = refl
-unwinds_from_silent p v Plain e f (Some h) = refl
-unwinds_from_silent p v (Generated number by) e f (Some h) = refl
+unwinds_from_silent p v o e f None = goes_out_silent p (without_top v) (without_top v).calls o e f
+unwinds_from_silent p v o e f (Some h) = refl
 
 pub unwinds_silent : (p : Parts) (v : FramesView) (e : Exc) (calls : List Call) → (unwinds p v e calls).printed ≡ []
 unwinds_silent p v e [] = refl

@@ -1,17 +1,20 @@
 -- What a machine has done.
-use Rattle.std.specs.Prelude.{◌≡◌, ℕ, ◌+◌, ◌<◌, ◌++◌, Bool, true, false, Some, slice_get}
+use Rattle.std.specs.Prelude.{◌≡◌, ℕ, ◌+◌, ◌<◌, ◌++◌, [], Bool, true, false, Some, slice_get}
 use Rattle.mon_values.specs.declared.value.Exc.{Exc}
 use Rattle.mon_code.specs.declared.program.Code.{Code}
 use Rattle.mon_code.specs.declared.program.Location.{Location}
 use Rattle.mon_code.specs.Programs.{Parts}
 use Rattle.mon_frames.specs.declared.frame.Frame.{Frame}
-use Rattle.mon_frames.specs.Views.{top_of}
+use Rattle.mon_frames.specs.Views.{FramesView, top_of}
 use Rattle.mon_words.specs.History.{after}
 use Rattle.mon_words.specs.Told.{Told, Polls}
 use Rattle.mon_hear.specs.Words.{loads}
 use Rattle.mon_hear.specs.Hearing.{Heard, UnwindingHeard, Retiring}
+use Rattle.mon_machine.specs.declared.mode.Answer.{Answer}
+use Rattle.mon_machine.specs.declared.mode.Mode.{Mode}
 use Rattle.mon_machine.specs.State.{State}
-use Rattle.mon_machine.specs.Step.{Step, unwinds}
+use Rattle.mon_machine.specs.Events.{answer_events}
+use Rattle.mon_machine.specs.Step.{Step, unwinds, finished}
 use Rattle.mon_machine.specs.Advances.{Progress, RanStep, PolledOnce, instruction_due, polls_once}
 use Rattle.mon_interp.specs.declared.events.Place.{Place}
 use Rattle.mon_interp.specs.declared.machine.Machine.{Machine}
@@ -23,6 +26,14 @@ state_of m = record { frames = m.frames; mode = m.mode }
 
 abbrev pub progress_of : Machine → Progress
 progress_of m = record { state = state_of m; printed = m.printed; records = m.records; disables = m.disables; steps = m.steps }
+
+-- a call has its answer, and its finish step is still to be done
+abbrev pub finishing : Answer → Progress → Progress
+finishing a x = record x { state = record { frames = x.state.frames; mode = Mode.Finish a } }
+
+-- the finish step of a call at this location, at which the innermost frame stands
+abbrev pub answered_at : Parts → Answer → ℕ → Frame → FramesView → Step
+answered_at p a location f v = record { after = finished v f a.result; printed = []; events = answer_events p a location f a.result }
 
 -- A step was done, and heard by the words that stood before it: that of its location, and what its events need. The word of
 -- its location was retired, where its opcode in place is more than its enabled bits need.

@@ -1,5 +1,5 @@
 -- What the execution of an instruction answers.
-use Rattle.std.specs.Prelude.{◌≡◌, ℕ, ◌<◌, Bool, true, false, List, [], ◌∷◌, Option, Some, None}
+use Rattle.std.specs.Prelude.{◌≡◌, ℕ, ◌<◌, nat_lt, Bool, true, false, List, [], ◌∷◌, length, Option, Some, None}
 use Rattle.std.specs.declared.vec.Vec.{Vec}
 use Rattle.std.specs.declared.alloc.Global.{Global}
 use Rattle.mon_values.specs.declared.value.Value.{Value}
@@ -50,8 +50,9 @@ abbrev pub TakesCall : ℕ → Option (Value × Vec Value Global) → Frame → 
 TakesCall count None old new = (callee_in count old.stack ≡ None) × (new ≡ old)
 TakesCall count (Some (callee, args)) old new = (callee_in count old.stack ≡ Some callee) × (args.items ≡ args_in count old.stack) × (new ≡ with_stack old (below_in count old.stack))
 
--- an instruction raises, anew or again
-abbrev pub is_raising : Ending → Bool
-is_raising (Ending.Raises e) = true
-is_raising (Ending.Reraises e) = true
-is_raising _ = false
+-- an instruction raises, anew or again, in its own frame, or in the generator whose frame is then on top
+abbrev pub raises : List Call → Ending → Bool
+raises calls (Ending.Raises e) = true
+raises calls (Ending.Reraises e) = true
+raises calls (Ending.ThrowsIn e) = nat_lt 0 (length calls)
+raises calls _ = false

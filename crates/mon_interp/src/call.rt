@@ -1,23 +1,21 @@
 //! `CALL`: of a code, a builtin or a class of exceptions.
 
 ghost use Rattle.std.specs.Prelude.{◌≡◌, ◌<◌, Some, slice_get, IfOk};
-ghost use Rattle.std.specs.Option.{option_copied};
-ghost use Rattle.mon_values.specs.declared.value.Value.TheViews.{out-Value};
-ghost use Rattle.mon_values.specs.Weights.{made_exc, exc_of};
 ghost use Rattle.mon_frames.specs.declared.frame.Frame.{Frame as FrameOf};
 ghost use Rattle.mon_frames.specs.Views.{top_of};
 ghost use Rattle.mon_machine.specs.Moves as spec;
 ghost use Rattle.mon_interp.specs.Moving.{Stands, TakesCall, frames_move, texts};
 
 use crate::done::{Done, plain, refuse, throw, throw_trouble};
+use crate::giving::instance;
 use crate::iterate::push_top;
+use crate::resume::{call_method, next_of_generator};
 use mon_builtins::{BuiltinFault, Given, call_builtin};
 use mon_code::Program;
 use mon_events::Event;
 use mon_frames::{Frame, FrameFault, Frames};
 use mon_machine::Ending;
-use mon_values::exc::make_exc;
-use mon_values::fault::{ExcFault, Trouble};
+use mon_values::fault::Trouble;
 use mon_values::text::Text;
 use mon_values::value::{Exc, Value};
 use std::alloc::{AllocError, Global};
@@ -28,8 +26,8 @@ const NAMED_BUILTINS: u8 = 11;
 /// All builtins; those behind the named ones are methods of generators.
 const BUILTINS: u8 = 14;
 
-// A builtin or a class answered with a value, and perhaps with a text.
-fn answer(frames: &mut Frames, printed: Option<Text>, value: Value) -> Result<Done, AllocError>
+/// A builtin or a class answered with a value, and perhaps with a text.
+pub fn answer(frames: &mut Frames, printed: Option<Text>, value: Value) -> Result<Done, AllocError>
     requires { Stands frames.old.calls }
     ensures { IfOk result (λ done. (f : FrameOf) → top_of frames.old.calls ≡ Some f → spec.answers frames.old f (texts printed) value ≡ frames_move frames.new done) }
 {
@@ -59,22 +57,6 @@ fn call_code(
         Ok(()) => Ok(plain(Ending::Continues)),
         Err(FrameFault::Full) => refuse(alloc, Trouble::TOO_MANY_FRAMES),
         Err(FrameFault::Memory) => Err(AllocError),
-    }
-}
-
-// The instance of a class with this argument, with want of memory apart.
-#[tactic(auto, using(crate::proofs::Answered::exc_gave, crate::proofs::Answered::exc_raised))]
-fn instance(
-    alloc: Global,
-    class: u8,
-    arg: Option<&Value>,
-) -> Result<Result<Exc, Trouble>, AllocError>
-    ensures { IfOk result (λ made. made ≡ made_exc (exc_of class (option_copied arg.entry))) }
-{
-    match make_exc(alloc, class, arg) {
-        Ok(exc) => Ok(Ok(exc)),
-        Err(ExcFault::Trouble(trouble)) => Ok(Err(trouble)),
-        Err(ExcFault::Memory) => Err(AllocError),
     }
 }
 
@@ -115,16 +97,6 @@ fn call_class(
     }
 }
 
-// `next` of a generator, which is not resumed so far.
-fn next_of_generator(alloc: Global, frames: &Frames, number: u32) -> Result<Done, AllocError>
-    ensures { IfOk result (λ done. spec.next_of_generator frames.now (slice_get frames.now.generators number) ≡ frames_move frames.now done) }
-{
-    match frames.generator(number) {
-        None => throw_trouble(alloc, Trouble::WRONG_ARGUMENT),
-        Some(_) => Ok(plain(Ending::Misses)),
-    }
-}
-
 // Goes on with what a builtin gave.
 fn give(alloc: Global, frames: &mut Frames, given: Given) -> Result<Done, AllocError>
     requires { Stands frames.old.calls }
@@ -135,29 +107,6 @@ fn give(alloc: Global, frames: &mut Frames, given: Given) -> Result<Done, AllocE
         Given::Printed(text) => answer(frames, Some(text), Value::None),
         Given::Raised(exc) => Ok(throw(exc)),
         Given::Next(number) => next_of_generator(alloc, frames, number),
-    }
-}
-
-// A method of a value, which must be a generator.
-fn call_method_of(alloc: Global, frames: &Frames, v: &Value) -> Result<Done, AllocError>
-    ensures { IfOk result (λ done. spec.method_on frames.now (spec.generator_at frames.now (out-Value v.now)) ≡ frames_move frames.now done) }
-{
-    match v {
-        Value::Gen(number) => match frames.generator(*number) {
-            None => throw_trouble(alloc, Trouble::NO_SUCH_METHOD),
-            Some(_) => Ok(plain(Ending::Misses)),
-        },
-        _ => throw_trouble(alloc, Trouble::NO_SUCH_METHOD),
-    }
-}
-
-// A method of a generator, which is not run so far.
-fn call_method(alloc: Global, frames: &Frames, args: &[Value]) -> Result<Done, AllocError>
-    ensures { IfOk result (λ done. spec.method_on frames.now (spec.first_generator frames.now args.now) ≡ frames_move frames.now done) }
-{
-    match args {
-        [] => throw_trouble(alloc, Trouble::NO_SUCH_METHOD),
-        [first, ..] => call_method_of(alloc, frames, first),
     }
 }
 
@@ -192,7 +141,7 @@ fn call_numbered(
     if number < NAMED_BUILTINS {
         call_named(alloc, program, frames, number, args)
     } else if number < BUILTINS {
-        call_method(alloc, frames, args)
+        call_method(alloc, frames, number, args)
     } else {
         throw_trouble(alloc, Trouble::NOT_CALLABLE)
     }

@@ -1,6 +1,6 @@
 //! The events of a step.
 
-ghost use Rattle.std.specs.Prelude.{◌≡◌, ◌*◌, ◌∷◌, [], ℕ, true, Option, option_map, OnOk, IfOk};
+ghost use Rattle.std.specs.Prelude.{◌≡◌, ◌*◌, ◌<◌, ◌++◌, ◌∷◌, [], ℕ, true, Option, Some, option_map, OnOk, IfOk};
 ghost use Rattle.mon_events.specs.declared.event.Event.TheVariants as event_of;
 ghost use Rattle.mon_events.specs.declared.event.Slot.TheVariants as slot_of;
 ghost use Rattle.mon_values.specs.declared.value.Value.{Exc as RaisedValue};
@@ -8,15 +8,15 @@ ghost use Rattle.mon_recorders.specs.declared.happening.Kind.TheVariants.{Local,
 ghost use Rattle.mon_machine.specs.Events as spec;
 ghost use Rattle.mon_machine.specs.Events.{Shown as ShownOf};
 ghost use Rattle.mon_interp.specs.Asking.{asks_for, Adds};
-ghost use Rattle.mon_interp.specs.Places.{standing, ShowsFor};
+ghost use Rattle.mon_interp.specs.Places.{standing, IsAt, ShowsFor};
 ghost use Rattle.mon_interp.specs.Shows.{shown_in, going, dest as dest_of};
 
-use crate::shows::{Shows, show_exc};
+use crate::shows::{Shows, show_answer, show_exc};
 use mon_code::Program;
 use mon_events::{Event, Op, Slot};
-use mon_frames::Frames;
+use mon_frames::{Frame, Frames};
 use mon_hear::{asks_global, asks_slot};
-use mon_machine::Ending;
+use mon_machine::{Answer, Ending};
 use mon_recorders::{Cut, Happening, Kind};
 use mon_values::value::Exc;
 use std::alloc::{AllocError, Global};
@@ -183,16 +183,47 @@ pub fn push_exception(
     Ok(())
 }
 
-/// RAISE or RERAISE, where an exception is raised.
+/// The place of a frame that has no instruction to do.
+pub fn place_of(frame: &Frame) -> Place
+    ensures { IsAt result frame.now }
+{
+    Place {
+        code: frame.code,
+        index: frame.index,
+        location: 0,
+    }
+}
+
+// PY_THROW and RAISE in the innermost frame, if there is one.
+fn push_throw(
+    alloc: Global,
+    program: &Program,
+    events: &mut Vec<Happening>,
+    global: u64,
+    frames: &Frames,
+    exc: &Exc,
+) -> Result<(), AllocError>
+    ensures { OnOk result ((word : ℕ) → Adds word global events.old.items events.new.items (spec.throw_events program.now exc.now frames.now.calls)) }
+{
+    if frames.depth() == 0 {
+        return Ok(());
+    }
+    let place = place_of(frames.top());
+    push_exception(alloc, program, events, global, place, Event::PyThrow, exc)?;
+    push_exception(alloc, program, events, global, place, Event::Raise, exc)
+}
+
+/// RAISE or RERAISE, where an exception is raised; PY_THROW and RAISE in the innermost frame, into which one is thrown.
 pub fn push_raise(
     alloc: Global,
     program: &Program,
     events: &mut Vec<Happening>,
     global: u64,
     place: Place,
+    frames: &Frames,
     ending: &Ending,
 ) -> Result<(), AllocError>
-    ensures { OnOk result ((word : ℕ) → Adds word global events.old.items events.new.items (spec.raise_events program.now (standing place) ending.now)) }
+    ensures { OnOk result ((word : ℕ) → Adds word global events.old.items events.new.items (spec.raise_events program.now (standing place) frames.now.calls ending.now)) }
 {
     match ending {
         Ending::Raises(exc) => {
@@ -201,7 +232,54 @@ pub fn push_raise(
         Ending::Reraises(exc) => {
             push_exception(alloc, program, events, global, place, Event::Reraise, exc)
         }
-        Ending::Continues | Ending::Returns(_) | Ending::Misses => Ok(()),
+        Ending::ThrowsIn(exc) => push_throw(alloc, program, events, global, frames, exc),
+        Ending::Continues
+        | Ending::Returns(_)
+        | Ending::Yields(_)
+        | Ending::Parks
+        | Ending::Misses => Ok(()),
+    }
+}
+
+// C_RETURN or C_RAISE of a call, with the builtin and the generator.
+fn push_end(
+    alloc: Global,
+    program: &Program,
+    events: &mut Vec<Happening>,
+    word: u64,
+    place: Place,
+    event: Event,
+    answer: &Answer,
+) -> Result<(), AllocError>
+    ensures { OnOk result ((global : ℕ) → Adds word global events.old.items events.new.items (spec.ancillary_events (Some event) (spec.of_answer program.now answer.now) place.location (standing place))) }
+{
+    if !asks_slot(word, Slot::Main) {
+        return Ok(());
+    }
+    let shows = show_answer(alloc, program, answer)?;
+    let kind = Kind::Ancillary(place.location);
+    events.push(happens_with(place, event, kind, 0, &shows)?)?;
+    Ok(())
+}
+
+/// The events at the end of a call that has this answer: C_RETURN, or C_RAISE and RAISE.
+pub fn push_answer(
+    alloc: Global,
+    program: &Program,
+    events: &mut Vec<Happening>,
+    word: u64,
+    global: u64,
+    place: Place,
+    answer: &Answer,
+) -> Result<(), AllocError>
+    ensures { OnOk result (Adds word global events.old.items events.new.items (spec.answer_events program.now answer.now place.location (standing place) answer.now.result)) }
+{
+    match &answer.result {
+        Ok(_) => push_end(alloc, program, events, word, place, Event::CReturn, answer),
+        Err(exc) => {
+            push_end(alloc, program, events, word, place, Event::CRaise, answer)?;
+            push_exception(alloc, program, events, global, place, Event::Raise, exc)
+        }
     }
 }
 

@@ -8,17 +8,17 @@ ghost use Rattle.mon_interp.specs.Machines.{PolledDue};
 ghost use Rattle.mon_interp.specs.Moving.{texts};
 
 use crate::done::Done;
-use crate::events::Place;
-use crate::listen::{hear_line, load_raised, load_unwinding};
+use crate::events::{Place, push_answer};
+use crate::listen::{hear_line, load_answered, load_raised};
 use crate::perform::perform;
-use crate::settle::{settle, unwind};
+use crate::settle::{finish, settle, unwind};
 use crate::step::{act, instruct_in_place, list_events, list_plain, look};
 use crate::thread::Stop;
 use mon_code::{Code, Location, Program};
 use mon_events::{Op, Slot, op_of_number};
 use mon_frames::Frames;
-use mon_hear::{asks_slot, hear_asked, hear_unwinding_asked, retire_due};
-use mon_machine::Mode;
+use mon_hear::{asks_slot, hear_asked, hear_unwinding_asked, load_global, retire_due};
+use mon_machine::{Answer, Mode};
 use mon_recorders::{Disabled, Happening, Outcome, Records, ThreadReport};
 use mon_values::text::Text;
 use mon_values::value::Exc;
@@ -94,7 +94,7 @@ impl Machine {
     ghost use Rattle.mon_machine.specs.Step.{executed, after_ending};
     ghost use Rattle.mon_machine.specs.Advances.{Advanced, Stays, is_asked};
     ghost use Rattle.mon_machine.specs.declared.mode.Mode.TheVariants.{Run, Stuck};
-    ghost use Rattle.mon_interp.specs.Machines.{progress_of, state_of, HeardStep, StandsHere, DoneStep, StepOrStop, RanUnwinding};
+    ghost use Rattle.mon_interp.specs.Machines.{progress_of, state_of, finishing, answered_at, HeardStep, StandsHere, DoneStep, StepOrStop, RanUnwinding};
     ghost use Rattle.mon_interp.specs.Retires.{Retired};
     ghost use Rattle.mon_interp.specs.Asking.{asks_for};
     ghost use Rattle.mon_interp.specs.Moving.{Stands, texts};
@@ -105,7 +105,7 @@ impl Machine {
     pub fn goes(&self) -> bool
         ensures { result ≡ goes self.now.mode }
     {
-        matches!(self.mode, Mode::Run | Mode::Unwind(_))
+        matches!(self.mode, Mode::Run | Mode::Unwind(_) | Mode::Finish(_))
     }
 
     /// Goes on after an instruction that was done so.
@@ -117,7 +117,7 @@ impl Machine {
         ensures steps { self.new.steps ≡ self.old.steps }
         ensures events { self.new.events.items ≡ self.old.events.items }
     {
-        let mode = settle(program, &mut self.frames, done.ending)?;
+        let mode = settle(self.alloc, program, &mut self.frames, done.ending)?;
         turn(&mut self.mode, mode);
         add_text(&mut self.printed, done.printed)
     }
@@ -165,11 +165,12 @@ impl Machine {
         }
         let argument = location.argument;
         let done = perform(self.alloc, program, code, &mut self.frames, op, argument)?;
-        let global = load_raised(handle, &done.ending);
+        let global = load_raised(handle, &self.frames, &done.ending);
         self.events.clear();
         list_plain(
             self.alloc,
             program,
+            &self.frames,
             &mut self.events,
             word,
             global,
@@ -220,7 +221,7 @@ impl Machine {
         let frame = self.frames.top();
         let before = look(self.alloc, program, frame, number, word, op, argument)?;
         let done = act(self.alloc, program, code, &mut self.frames, op, location)?;
-        let global = load_raised(handle, &done.ending);
+        let global = load_raised(handle, &self.frames, &done.ending);
         self.events.clear();
         list_events(
             self.alloc,
@@ -409,7 +410,7 @@ impl Machine {
             self.get_stuck();
             return Ok(());
         }
-        let global = load_unwinding(handle, program, &self.frames);
+        let global = load_global(handle);
         self.events.clear();
         let mode = unwind(
             self.alloc,
@@ -431,6 +432,121 @@ impl Machine {
         Ok(())
     }
 
+    /// The end of a call that resumed a generator, at a location with this word, which was loaded just now.
+    fn finish_at<H: Handle>(
+        &mut self,
+        program: &Program,
+        handle: &mut H,
+        place: Place,
+        word: u64,
+        answer: Answer,
+    ) -> Result<(), AllocError>
+        requires attached { IsTrue (H.told handle.old).attached }
+        requires within { place.location < length (H.told handle.old).first.cells }
+        requires loaded { cell_of word ≡ cell_at (after (H.told handle.old).first (H.told handle.old).seen) place.location }
+        requires stands { Stands self.old.frames.calls }
+        requires counted { self.old.steps < 2 ^ 63 }
+        ensures step { OnOk result ((f : FrameOf) → top_of self.old.frames.calls ≡ Some f → IsAt place f → HeardStep (answered_at program.now answer place.location f self.old.frames) place.location word (H.told handle.old) (H.told handle.new) (progress_of self.old) (progress_of self.new)) }
+        ensures counted { (self.old.steps ≤ self.new.steps) × (self.new.steps ≤ self.old.steps + 1) }
+        ensures stays { (m : List MarkOf) × Grows (H.told handle.old) (H.told handle.new) m }
+        ensures rest { H.rest handle.new ≡ H.rest handle.old }
+    {
+        let global = load_answered(handle, &answer.result);
+        self.events.clear();
+        push_answer(
+            self.alloc,
+            program,
+            &mut self.events,
+            word,
+            global,
+            place,
+            &answer,
+        )?;
+        let mode = finish(&mut self.frames, answer.result)?;
+        put(&mut self.mode, mode);
+        hear_asked(
+            handle,
+            place.location,
+            word,
+            global,
+            self.steps,
+            self.events.as_slice(),
+            &mut self.records,
+            &mut self.disables,
+        )?;
+        self.steps += 1;
+        Ok(())
+    }
+
+    /// The end of a call that resumed a generator, where the innermost frame stands at this location, which is loaded again.
+    fn load_and_finish<H: Handle>(
+        &mut self,
+        program: &Program,
+        code: &Code,
+        handle: &mut H,
+        place: Place,
+        location: Location,
+        answer: Answer,
+    ) -> Result<(), AllocError>
+        requires attached { IsTrue (H.told handle.old).attached }
+        requires owns { Owns (H.told handle.old) }
+        requires within { place.location < length (H.told handle.old).first.cells }
+        requires counted { self.old.steps < 2 ^ 63 }
+        requires stands { StandsHere program.now code.now location place (state_of self.old) }
+        ensures step { OnOk result (DoneStep program.now (H.told handle.old) (H.told handle.new) (finishing answer (progress_of self.old)) (progress_of self.new)) }
+        ensures counted { (self.old.steps ≤ self.new.steps) × (self.new.steps ≤ self.old.steps + 1) }
+        ensures stays { (m : List MarkOf) × Grows (H.told handle.old) (H.told handle.new) m }
+        ensures rest { H.rest handle.new ≡ H.rest handle.old }
+    {
+        let again = handle.load(place.location);
+        self.finish_at(program, handle, place, again, answer)
+    }
+
+    /// The end of a call that resumed a generator, whatever stands at the location of the innermost frame.
+    fn finish_step<H: Handle>(
+        &mut self,
+        program: &Program,
+        handle: &mut H,
+        answer: Answer,
+    ) -> Result<(), AllocError>
+        requires attached { IsTrue (H.told handle.old).attached }
+        requires owns { Owns (H.told handle.old) }
+        requires bases { map base_in (H.told handle.old).first.cells ≡ program.now.bases }
+        requires counted { self.old.steps < 2 ^ 63 }
+        ensures step { OnOk result (DoneStep program.now (H.told handle.old) (H.told handle.new) (finishing answer (progress_of self.old)) (progress_of self.new)) }
+        ensures counted { (self.old.steps ≤ self.new.steps) × (self.new.steps ≤ self.old.steps + 1) }
+        ensures stays { (m : List MarkOf) × Grows (H.told handle.old) (H.told handle.new) m }
+        ensures rest { H.rest handle.new ≡ H.rest handle.old }
+    {
+        if self.frames.depth() == 0 {
+            self.get_stuck();
+            return Ok(());
+        }
+        let frame = self.frames.top();
+        let number = frame.code;
+        let at = frame.index;
+        match program.code(number) {
+            None => {
+                self.get_stuck();
+                Ok(())
+            }
+            Some(code) => match code.locations.get(at as usize) {
+                None => {
+                    self.get_stuck();
+                    Ok(())
+                }
+                Some(location) => {
+                    let place = Place {
+                        code: number,
+                        index: at,
+                        location: code.first + at,
+                    };
+                    self.load_and_finish(program, code, handle, place, *location, answer)
+                }
+            },
+        }
+    }
+
     /// One step, in a mode that goes on; false, where the thread is asked to stop before it.
     fn one_step<H: Handle>(&mut self, program: &Program, handle: &mut H) -> Result<bool, AllocError>
         requires attached { IsTrue (H.told handle.old).attached }
@@ -450,6 +566,10 @@ impl Machine {
         match mode {
             Mode::Unwind(exc) => {
                 self.unwind_step(program, handle, exc)?;
+                Ok(true)
+            }
+            Mode::Finish(answer) => {
+                self.finish_step(program, handle, answer)?;
                 Ok(true)
             }
             Mode::Run | Mode::Ended(_) | Mode::Stuck => unreachable!(),
@@ -520,6 +640,6 @@ fn outcome_of(mode: Mode) -> Outcome
 {
     match mode {
         Mode::Ended(outcome) => outcome,
-        Mode::Run | Mode::Unwind(_) | Mode::Stuck => Outcome::Limit,
+        Mode::Run | Mode::Unwind(_) | Mode::Finish(_) | Mode::Stuck => Outcome::Limit,
     }
 }

@@ -30,6 +30,32 @@ fn return_value(frames: &mut Frames) -> Ending
     }
 }
 
+// `YIELD_VALUE`: the frame waits by what follows.
+#[tactic(auto, using(crate::proofs::Standing::one_stands))]
+fn yield_value(frames: &mut Frames) -> Ending
+    requires { Stands frames.old.calls }
+    ensures { (f : FrameOf) → top_of frames.old.calls ≡ Some f → spec.yield_value frames.old f f.stack ≡ moved frames.new result }
+{
+    let frame = frames.top_mut();
+    match frame.stack.pop() {
+        None => Ending::Misses,
+        Some(value) => {
+            frame.index += 1;
+            Ending::Yields(value)
+        }
+    }
+}
+
+// `RETURN_GENERATOR`: the frame becomes a generator by what follows.
+#[tactic(auto, using(crate::proofs::Standing::one_stands))]
+fn return_generator(frames: &mut Frames) -> Ending
+    requires { Stands frames.old.calls }
+    ensures { (f : FrameOf) → top_of frames.old.calls ≡ Some f → spec.return_generator frames.old f ≡ moved frames.new result }
+{
+    frames.top_mut().index = 1;
+    Ending::Parks
+}
+
 // Does what an instruction does that works on all frames.
 fn move_frames(
     alloc: Global,
@@ -47,6 +73,8 @@ fn move_frames(
         Op::RaiseVarargs => Ok(plain(raise_varargs(alloc, frames, argument)?)),
         Op::Call => call(alloc, program, frames, argument),
         Op::ReturnValue => Ok(plain(return_value(frames))),
+        Op::ReturnGenerator => Ok(plain(return_generator(frames))),
+        Op::YieldValue => Ok(plain(yield_value(frames))),
         _ => Ok(plain(Ending::Misses)),
     }
 }

@@ -10,6 +10,7 @@ ghost use Rattle.mon_interp.specs.Shows.{shown_in, values};
 use mon_code::Program;
 use mon_events::Op;
 use mon_frames::{Frame, Operands};
+use mon_machine::Answer;
 use mon_recorders::Cut;
 use mon_values::value::{Exc, Value};
 use std::alloc::{AllocError, Global};
@@ -91,6 +92,16 @@ fn show_call(
     Ok(Shows {
         first: cut_or_none(alloc, program, below(stack, count))?,
         second: cut_or_none(alloc, program, first_argument(stack, count))?,
+    })
+}
+
+/// The builtin and the generator of a call that has an answer.
+pub fn show_answer(alloc: Global, program: &Program, answer: &Answer) -> Result<Shows, AllocError>
+    ensures { IfOk result (λ shows. shown_in shows ≡ spec.of_answer program.now answer.now) }
+{
+    Ok(Shows {
+        first: cut(alloc, program, &Value::Builtin(answer.builtin))?,
+        second: cut(alloc, program, &Value::Gen(answer.generator))?,
     })
 }
 

@@ -148,7 +148,7 @@ pub fn list_events(
     push_instruction(events, word, place)?;
     push_main(events, word, place, event, to, &before.shows)?;
     push_ancillary(events, word, place, done.ancillary, &before.shows)?;
-    push_raise(alloc, program, events, global, place, &done.ending)
+    push_raise(alloc, program, events, global, place, frames, &done.ending)
 }
 
 /// Lists the events of an instruction at a location whose word asks for no event of a slot but LINE: that one and what is
@@ -156,6 +156,7 @@ pub fn list_events(
 pub fn list_plain(
     alloc: Global,
     program: &Program,
+    frames: &Frames,
     events: &mut Vec<Happening>,
     word: u64,
     global: u64,
@@ -164,8 +165,8 @@ pub fn list_plain(
     last: Option<u32>,
     ending: &Ending,
 ) -> Result<(), AllocError>
-    ensures { OnOk result (Adds word global events.old.items events.new.items (line_events (standing place) place.location line last ++ raise_events program.now (standing place) ending.now)) }
+    ensures { OnOk result (Adds word global events.old.items events.new.items (line_events (standing place) place.location line last ++ raise_events program.now (standing place) frames.now.calls ending.now)) }
 {
     push_line(events, word, place, line, last)?;
-    push_raise(alloc, program, events, global, place, ending)
+    push_raise(alloc, program, events, global, place, frames, ending)
 }

@@ -32,7 +32,6 @@ use Rattle.mon_machine.specs.Step.{step, after_ending}
 use Rattle.mon_machine.specs.Run.{after_steps}
 use Rattle.mon_machine.specs.Laws.{IsCall}
 use Rattle.mon_machine.proofs.Runs.{after_steps_sum, after_steps_first}
-use Rattle.mon_machine.proofs.Rows.{are_run, run_op, all_run}
 
 abbrev location : ℕ → Option ℕ → Bool → Bool → Option Handler → ℕ → ℕ → Location
 location argument line is_marked is_safe handler stack handling = record { argument = argument; line = line; is_marked = is_marked; is_safe = is_safe; handler = handler; stack = stack; handling = handling }
@@ -247,8 +246,7 @@ is_checked : IsChecked program
 is_checked = record { named = refl; small = omega arith; constants = tt; codes = (refl, g_is_code, (refl, h_is_code, (refl, t_is_code, (refl, w_is_code, refl)))) }
 
 is_called : (k : ℕ) (c : Code) → slice_get program.codes k ≡ Some c → 0 ≡ c.parameters → IsCall program k c []
-unfolding are_run run_op
-is_called k c found none = record { checked = is_checked; runs = all_run program.bases refl; found = found; count = none }
+is_called k c found none = record { checked = is_checked; found = found; count = none }
 
 -- the premises of the laws can be met
 w_is_called : IsCall program 3 w []

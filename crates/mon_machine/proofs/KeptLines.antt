@@ -32,7 +32,7 @@ use Rattle.mon_machine.specs.Step.{step}
 use Rattle.mon_machine.specs.Run.{after_steps, heard, is_line}
 use Rattle.mon_machine.specs.Serial.{wants_line, line_records, WantsLine, HasLineWants}
 use Rattle.mon_machine.specs.Laws.{MarksLine, is_line_kind}
-use Rattle.mon_machine.specs.Advances.{Progress, nothing_done, Due, due_at, due_in, due_in_top, due_in_mode, instruction_due, events_from, Ran}
+use Rattle.mon_machine.specs.Advances.{Progress, nothing_done, Due, due_at, due_in, due_in_top, unpolled, due_in_mode, instruction_due, events_from, Ran}
 use Rattle.mon_machine.specs.AdvanceLaws.{StandAt, KeepsLines, KeptLines, LinesAreKept}
 use Rattle.mon_machine.proofs.Bare.{no_bit}
 use Rattle.mon_machine.proofs.BareAdvances.{wanted_none, turns_none}
@@ -61,9 +61,16 @@ module _ (p : Parts) (tool : ℕ) (b : Board) (wants : HasLineWants p tool b) wh
   found_top [] due e = absurd (none-some due e)
   found_top (call ∷ calls) due e = found_in call.frame.code call.frame.index (slice_get p.codes call.frame.code) due refl e
 
+  found_unpolled : (due due' : Option Due) (d : Due) → ((e : Due) → due ≡ Some e → Found p tool b e.location) → unpolled due ≡ due' → due' ≡ Some d → Found p tool b d.location
+  found_unpolled None due' d each is e = absurd (none-some d (is ∙ e))
+  found_unpolled (Some x) due' d each is e =
+      let same : x.location ≡ d.location = ap (λ (y : Due). y.location) (same_Some (record x { is_safe = false }) d (is ∙ e)) in
+      subst (λ (n : ℕ). Found p tool b n) same (each x refl)
+
   found_mode : (calls : List Call) (mode : Mode) (due : Due) → due_in_mode p calls mode ≡ Some due → Found p tool b due.location
   found_mode calls Mode.Run due e = found_top calls due e
   found_mode calls (Mode.Unwind x) due e = absurd (none-some due e)
+  found_mode calls (Mode.Finish a) due e = found_unpolled (due_in_top p calls) (unpolled (due_in_top p calls)) due (found_top calls) refl e
   found_mode calls (Mode.Ended outcome) due e = absurd (none-some due e)
   found_mode calls Mode.Stuck due e = absurd (none-some due e)
 

@@ -1,10 +1,10 @@
 -- A last line is read by events alone.
-use Rattle.std.proofs.Common.{◌≡◌, ℕ, zero, suc, ◌+◌, Bool, true, false, ◌==◌, nat_lt, nat_le, List, [], ◌∷◌, ◌++◌, length, map, take, drop, reverse, refl, sym, ap, ◌∙◌}
+use Rattle.std.proofs.Common.{◌≡◌, ℕ, zero, suc, ◌+◌, Bool, true, false, ◌==◌, nat_lt, nat_le, List, [], ◌∷◌, ◌++◌, length, map, take, drop, reverse, refl, sym, ap, subst, ◌∙◌}
 use Rattle.std.specs.Prelude.{Option, Some, None, Result, Ok, Err, slice_get, slice_set, if◌then◌else◌}
 use Rattle.std.specs.Option.{option_map}
 use Rattle.std.proofs.lemmas.Option.{slice_get-map}
 use Rattle.std.proofs.lemmas.List.{length-map}
-use Rattle.mon_values.specs.declared.value.Value.{Value, None as Nothing, Exc as Raised-value, Tuple, Iter}
+use Rattle.mon_values.specs.declared.value.Value.{Value, None as Nothing, Exc as Raised-value, Tuple, Iter, Gen, Done}
 use Rattle.mon_values.specs.declared.value.Value.TheOpen.{Value-F}
 use Rattle.mon_values.specs.declared.value.Value.TheViews.{out-Value, out-Exc}
 use Rattle.mon_values.specs.declared.value.Exc.{Exc}
@@ -25,25 +25,34 @@ use Rattle.mon_code.specs.declared.program.Location.{Location}
 use Rattle.mon_code.specs.Operators.{arith_op_of, cmp_op_of}
 use Rattle.mon_code.specs.Programs.{Parts, op_at, location_at}
 use Rattle.mon_frames.specs.declared.frame.Frame.{Frame}
+use Rattle.mon_frames.specs.declared.call.By.{By}
+use Rattle.mon_frames.specs.declared.call.By.TheVariants as by
 use Rattle.mon_frames.specs.declared.call.Call.{Call}
-use Rattle.mon_frames.specs.declared.call.Generator.{Generator}
-use Rattle.mon_frames.specs.declared.call.Generator.TheVariants.{NotStarted, Suspended, Running, Finished}
+use Rattle.mon_frames.specs.declared.generator.Closing.{Closing}
+use Rattle.mon_frames.specs.declared.generator.Generator.{Generator}
+use Rattle.mon_frames.specs.declared.generator.Generator.TheVariants.{NotStarted, Suspended, Running, Finished}
 use Rattle.mon_frames.specs.declared.fault.FrameFault.TheVariants as frame_fault
+use Rattle.mon_frames.specs.declared.fault.ResumeFault.{ResumeFault}
+use Rattle.mon_frames.specs.declared.fault.ResumeFault.TheVariants as resume_fault
+use Rattle.mon_frames.specs.Generators.{with_generators, running, sent_to, is_none, resumed, resumed_in, entered, entered_in, close_number, entered_to_close, closed, closed_in}
 use Rattle.mon_frames.specs.declared.call.Origin.{Origin}
 use Rattle.mon_frames.specs.declared.call.Origin.TheVariants.{Plain, Generator as Generated}
 use Rattle.mon_frames.specs.Calls.{called, handler_due}
 use Rattle.mon_frames.specs.Items.{items_of}
 use Rattle.mon_frames.specs.Iterating.{iterated_at, over, next_of}
-use Rattle.mon_frames.specs.Views.{FramesView, with_top, last_or, handled_in, has_room, most_frames, on_top, pushed_in}
+use Rattle.mon_frames.specs.Views.{FramesView, with_top, last_or, handled_in, has_room, most_frames, on_top, pushed_in, after_leaving}
 use Rattle.mon_builtins.specs.declared.given.Given.{Given}
 use Rattle.mon_builtins.specs.declared.given.Given.TheVariants as given
 use Rattle.mon_builtins.specs.Builtins as builtins
+use Rattle.mon_recorders.specs.declared.report.Outcome.{Outcome}
+use Rattle.mon_machine.specs.declared.mode.Answer.{Answer}
 use Rattle.mon_machine.specs.declared.mode.Mode.{Mode}
 use Rattle.mon_machine.specs.declared.mode.Ending.{Ending}
-use Rattle.mon_machine.specs.State.{State, FrameMove, Move, moved, with_frame, in_top, misses, goes_on, jumps}
+use Rattle.mon_machine.specs.State.{State, FrameMove, Move, moved, with_frame, in_top, misses, goes_on, jumps, in_mode_of}
 use Rattle.mon_machine.specs.Operations as spec
 use Rattle.mon_machine.specs.Moves as moves
-use Rattle.mon_machine.specs.Step.{Step, stuck, in_mode_of, stands_at, takes_value, gives_caller, leaves, origin_in, after_ending, with_line, executed, at_location, in_code, runs_top, caught_in, goes_out, unwinds_from, unwinds, in_mode, step}
+use Rattle.mon_machine.specs.Step.{Step, stuck, finished, finishes_at, finishes_in, finishes, after_ending, with_line, executed, at_location, in_code, runs_top, caught_in, goes_out, unwinds_from, unwinds, in_mode, step}
+use Rattle.mon_machine.specs.Giving.{stands_at, takes_value, gives_caller, stop_with, gives_returned, leaves, gives_yielded, yields_from, yields, parks_from, parks}
 use Rattle.mon_machine.specs.Run.{after_steps, printed_by}
 use Rattle.mon_machine.specs.LastLines.{unlined, unlined_call, unlined_generator, without_lines, unlined_state, LastLinesAreForEvents}
 
@@ -277,13 +286,90 @@ get_iter v f (x ∷ rest) =
     let g : Frame = moves.with_stack f rest in
     ap (λ (w : FramesView). moves.iterates_over w (unlined g) x) (framed v g) ∙ iterates_at (with_frame v g) g x (out-Value x)
 
-for_generator : (v : FramesView) (g : Option Generator) → moves.for_generator (without_lines v) (option_map unlined_generator g) ≡ all (moves.for_generator v g)
-for_generator v None = refl
-for_generator v (Some g) = refl
+set_map : {A B : Type 0} (h : A → B) (xs : List A) (n : ℕ) (y : A) → slice_set (map h xs) n (h y) ≡ map h (slice_set xs n y)
+set_map h [] n y = refl
+set_map h (x ∷ xs) zero y = refl
+set_map h (x ∷ xs) (suc n) y = ap (λ l. h x ∷ l) (set_map h xs n y)
+
+map_added : {A B : Type 0} (h : A → B) (xs : List A) (y : A) → map h xs ++ h y ∷ [] ≡ map h (xs ++ y ∷ [])
+map_added h [] y = refl
+map_added h (x ∷ xs) y = ap (λ l. h x ∷ l) (map_added h xs y)
+
+-- what a generator that goes on makes of the frames
+abbrev bare_due_frames : Result FramesView ResumeFault → Result FramesView ResumeFault
+bare_due_frames (Ok w) = Ok (without_lines w)
+bare_due_frames (Err fault) = Err fault
+
+module _ (v : FramesView) (number : ℕ) (by : By) where
+  abbrev go : FramesView → Frame → Bool → Result FramesView ResumeFault
+  go w f b = if b then Ok (on_top (with_generators w (slice_set w.generators number Running)) f (Generated number by)) else Err resume_fault.Full
+
+  running_bare : (f : Frame) → running (without_lines v) number by (unlined f) ≡ bare_due_frames (running v number by f)
+  running_bare f = ap (λ (n : ℕ). go (without_lines v) (unlined f) (nat_lt n most_frames)) (length-map v.calls unlined_call) ∙ pick (has_room v.calls)
+    where
+      pick : (b : Bool) → go (without_lines v) (unlined f) b ≡ bare_due_frames (go v f b)
+      pick true = ap (λ (gs : List Generator). let w : FramesView = record (without_lines v) { generators = gs } in let r : Result FramesView ResumeFault = Ok (on_top w (unlined f) (Generated number by)) in r) (set_map unlined_generator v.generators number Running)
+      pick false = refl
+
+  resumed_in_bare : (x : Value) (g : Option Generator) → resumed_in (without_lines v) number x by (option_map unlined_generator g) ≡ bare_due_frames (resumed_in v number x by g)
+  resumed_in_bare x None = refl
+  resumed_in_bare x (Some Running) = refl
+  resumed_in_bare x (Some Finished) = refl
+  resumed_in_bare x (Some (Suspended f)) = running_bare (sent_to f x)
+  resumed_in_bare x (Some (NotStarted f)) = pick (is_none x)
+    where
+      pick : (b : Bool) → (if b then running (without_lines v) number by (unlined (sent_to f x)) else Err resume_fault.NotNone) ≡ bare_due_frames (if b then running v number by (sent_to f x) else Err resume_fault.NotNone)
+      pick true = running_bare (sent_to f x)
+      pick false = refl
+
+  resumed_bare : (x : Value) → resumed (without_lines v) number x by ≡ bare_due_frames (resumed v number x by)
+  resumed_bare x = ap (λ (g : Option Generator). resumed_in (without_lines v) number x by g) (slice_get-map unlined_generator v.generators number) ∙ resumed_in_bare x (slice_get v.generators number)
+
+  entered_in_bare : (g : Option Generator) → entered_in (without_lines v) number by (option_map unlined_generator g) ≡ bare_due_frames (entered_in v number by g)
+  entered_in_bare None = refl
+  entered_in_bare (Some Running) = refl
+  entered_in_bare (Some Finished) = refl
+  entered_in_bare (Some (NotStarted f)) = running_bare f
+  entered_in_bare (Some (Suspended f)) = running_bare f
+
+  entered_bare : entered (without_lines v) number by ≡ bare_due_frames (entered v number by)
+  entered_bare = ap (λ (g : Option Generator). entered_in (without_lines v) number by g) (slice_get-map unlined_generator v.generators number) ∙ entered_in_bare (slice_get v.generators number)
+
+abbrev bare_closing : Result (Closing × FramesView) ResumeFault → Result (Closing × FramesView) ResumeFault
+bare_closing (Ok due) = Ok (due.0, without_lines due.1)
+bare_closing (Err fault) = Err fault
+
+entered_to_close_bare : (r : Result FramesView ResumeFault) → entered_to_close (bare_due_frames r) ≡ bare_closing (entered_to_close r)
+entered_to_close_bare (Ok w) = refl
+entered_to_close_bare (Err fault) = refl
+
+closed_in_bare : (v : FramesView) (number : ℕ) (g : Option Generator) → closed_in (without_lines v) number (option_map unlined_generator g) ≡ bare_closing (closed_in v number g)
+closed_in_bare v number None = refl
+closed_in_bare v number (Some Running) = refl
+closed_in_bare v number (Some Finished) = refl
+closed_in_bare v number (Some (NotStarted f)) =
+    ap (λ (gs : List Generator). let w : FramesView = record (without_lines v) { generators = gs } in let r : Result (Closing × FramesView) ResumeFault = Ok (Closing.Closed, w) in r) (set_map unlined_generator v.generators number Finished)
+closed_in_bare v number (Some (Suspended f)) =
+    ap entered_to_close (running_bare v number (by.Call close_number) f) ∙ entered_to_close_bare (running v number (by.Call close_number) f)
+
+closed_bare : (v : FramesView) (number : ℕ) → closed (without_lines v) number ≡ bare_closing (closed v number)
+closed_bare v number = ap (λ (g : Option Generator). closed_in (without_lines v) number g) (slice_get-map unlined_generator v.generators number) ∙ closed_in_bare v number (slice_get v.generators number)
+
+loops : (v : FramesView) (f : Frame) (r : Result FramesView ResumeFault) → moves.loops (without_lines v) (unlined f) (bare_due_frames r) ≡ all (moves.loops v f r)
+loops v f (Ok w) = refl
+loops v f (Err resume_fault.Finished) = pushes v f (Done (Some builtins.stop_iteration))
+loops v f (Err resume_fault.Running) = refl
+loops v f (Err resume_fault.NotNone) = refl
+loops v f (Err resume_fault.Full) = refl
+loops v f (Err resume_fault.Memory) = refl
+
+for_generator : (v : FramesView) (f : Frame) (number : ℕ) (g : Option Generator) → moves.for_generator (without_lines v) (unlined f) number (option_map unlined_generator g) ≡ all (moves.for_generator v f number g)
+for_generator v f number None = refl
+for_generator v f number (Some g) = ap (λ (r : Result FramesView ResumeFault). moves.loops (without_lines v) (unlined f) r) (resumed_bare v number by.For Nothing) ∙ loops v f (resumed v number Nothing by.For)
 
 for_iter_at : (v : FramesView) (f : Frame) (layer : Value-F Value Exc) → moves.for_iter_at (without_lines v) (unlined f) layer ≡ all (moves.for_iter_at v f layer)
 for_iter_at v f (Value-F.Iter number) = pushes (next_of v number).1 f (moves.or_done (next_of v number).0)
-for_iter_at v f (Value-F.Gen number) = ap (λ (g : Option Generator). moves.for_generator (without_lines v) g) (slice_get-map unlined_generator v.generators number) ∙ for_generator v (slice_get v.generators number)
+for_iter_at v f (Value-F.Gen number) = ap (λ (g : Option Generator). moves.for_generator (without_lines v) (unlined f) number g) (slice_get-map unlined_generator v.generators number) ∙ for_generator v f number (slice_get v.generators number)
 for_iter_at v f _ = refl
 
 for_iter : (v : FramesView) (f : Frame) (stack : List Value) → moves.for_iter (without_lines v) (unlined f) stack ≡ all (moves.for_iter v f stack)
@@ -336,15 +422,26 @@ calls_class v f class [] = as_answer v f (made_exc (exc_of class None))
 calls_class v f class (x ∷ []) = as_answer v f (made_exc (exc_of class (Some x)))
 calls_class v f class (x ∷ y ∷ args) = refl
 
-next_of_generator : (v : FramesView) (g : Option Generator) → moves.next_of_generator (without_lines v) (option_map unlined_generator g) ≡ all (moves.next_of_generator v g)
-next_of_generator v None = refl
-next_of_generator v (Some g) = refl
+resumes : (v : FramesView) (r : Result FramesView ResumeFault) → moves.resumes (without_lines v) (bare_due_frames r) ≡ all (moves.resumes v r)
+resumes v (Ok w) = refl
+resumes v (Err resume_fault.Finished) = refl
+resumes v (Err resume_fault.Running) = refl
+resumes v (Err resume_fault.NotNone) = refl
+resumes v (Err resume_fault.Full) = refl
+resumes v (Err resume_fault.Memory) = refl
+
+sends : (v : FramesView) (builtin number : ℕ) (x : Value) → moves.sends (without_lines v) builtin number x ≡ all (moves.sends v builtin number x)
+sends v builtin number x = ap (λ (r : Result FramesView ResumeFault). moves.resumes (without_lines v) r) (resumed_bare v number (by.Call builtin) x) ∙ resumes v (resumed v number x (by.Call builtin))
+
+next_of_generator : (v : FramesView) (number : ℕ) (g : Option Generator) → moves.next_of_generator (without_lines v) number (option_map unlined_generator g) ≡ all (moves.next_of_generator v number g)
+next_of_generator v number None = refl
+next_of_generator v number (Some g) = sends v moves.next_number number Nothing
 
 given_move : (v : FramesView) (f : Frame) (g : Given) → moves.given_move (unlined f) g (without_lines v) ≡ all (moves.given_move f g v)
 given_move v f (given.Value x) = answers v f [] x
 given_move v f (given.Printed text) = answers v f (text ∷ []) Nothing
 given_move v f (given.Raised e) = refl
-given_move v f (given.Next number) = ap (λ (g : Option Generator). moves.next_of_generator (without_lines v) g) (slice_get-map unlined_generator v.generators number) ∙ next_of_generator v (slice_get v.generators number)
+given_move v f (given.Next number) = ap (λ (g : Option Generator). moves.next_of_generator (without_lines v) number g) (slice_get-map unlined_generator v.generators number) ∙ next_of_generator v number (slice_get v.generators number)
 
 -- a builtin changes the iterators alone
 abbrev bare_due : Given × FramesView → Given × FramesView
@@ -393,28 +490,75 @@ builtin_due : (v : FramesView) (number : ℕ) (args : List Value) (names : List 
 builtin_due v number args names =
     one_of v (number == 0) (number == 1) (number == 2) (number == 3) (number == 4) (number == 5) (number == 6) (number == 7) (number == 8) (number == 9) _ _ _ _ _ _ _ _ _ _ _ _ _ (next_due v args) (iter_due v args)
 
-method_on : (v : FramesView) (g : Option Generator) → moves.method_on (without_lines v) (option_map unlined_generator g) ≡ all (moves.method_on v g)
-method_on v None = refl
-method_on v (Some g) = refl
+send : (v : FramesView) (number : ℕ) (args : List Value) → moves.send (without_lines v) number args ≡ all (moves.send v number args)
+send v number [] = refl
+send v number (x ∷ []) = sends v moves.send_number number x
+send v number (x ∷ y ∷ args) = refl
 
-method_at_first : (v : FramesView) (layer : Value-F Value Exc) → moves.method_on (without_lines v) (moves.generator_at (without_lines v) layer) ≡ all (moves.method_on v (moves.generator_at v layer))
-method_at_first v (Value-F.Gen number) = ap (λ (g : Option Generator). moves.method_on (without_lines v) g) (slice_get-map unlined_generator v.generators number) ∙ method_on v (slice_get v.generators number)
-method_at_first v _ = refl
+throws_in : (v : FramesView) (e : Exc) (r : Result FramesView ResumeFault) → moves.throws_in (without_lines v) e (bare_due_frames r) ≡ all (moves.throws_in v e r)
+throws_in v e (Ok w) = refl
+throws_in v e (Err resume_fault.Finished) = refl
+throws_in v e (Err resume_fault.Running) = refl
+throws_in v e (Err resume_fault.NotNone) = refl
+throws_in v e (Err resume_fault.Full) = refl
+throws_in v e (Err resume_fault.Memory) = refl
 
-method_of_first : (v : FramesView) (args : List Value) → moves.method_on (without_lines v) (moves.first_generator (without_lines v) args) ≡ all (moves.method_on v (moves.first_generator v args))
-method_of_first v [] = refl
-method_of_first v (x ∷ args) = method_at_first v (out-Value x)
+throws_instance : (v : FramesView) (number : ℕ) (r : Result Exc Trouble) → moves.throws_instance (without_lines v) number r ≡ all (moves.throws_instance v number r)
+throws_instance v number (Ok e) = ap (λ (r : Result FramesView ResumeFault). moves.throws_in (without_lines v) e r) (entered_bare v number (by.Call moves.throw_number)) ∙ throws_in v e (entered v number (by.Call moves.throw_number))
+throws_instance v number (Err t) = refl
+
+throw : (v : FramesView) (number : ℕ) (args : List Value) → moves.throw (without_lines v) number args ≡ all (moves.throw v number args)
+throw v number [] = refl
+throw v number (x ∷ []) = throws_instance v number (spec.instance_of x)
+throw v number (x ∷ y ∷ args) = refl
+
+closes_as : (f : Frame) (closing : Closing) (w : FramesView) → moves.closes_as (unlined f) closing (without_lines w) ≡ all (moves.closes_as f closing w)
+closes_as f Closing.Closed w = answers w f [] Nothing
+closes_as f Closing.Entered w = refl
+
+closes : (v : FramesView) (f : Frame) (r : Result (Closing × FramesView) ResumeFault) → moves.closes (without_lines v) (unlined f) (bare_closing r) ≡ all (moves.closes v f r)
+closes v f (Ok due) = closes_as f due.0 due.1
+closes v f (Err fault) = refl
+
+close : (v : FramesView) (f : Frame) (number : ℕ) (args : List Value) → moves.close (without_lines v) (unlined f) number args ≡ all (moves.close v f number args)
+close v f number [] = ap (λ (r : Result (Closing × FramesView) ResumeFault). moves.closes (without_lines v) (unlined f) r) (closed_bare v number) ∙ closes v f (closed v number)
+close v f number (x ∷ args) = refl
+
+method_of : (v : FramesView) (f : Frame) (method number : ℕ) (args : List Value) → moves.method_of (without_lines v) (unlined f) method number args ≡ all (moves.method_of v f method number args)
+method_of v f method number args = pick (method == moves.send_number) (method == moves.throw_number)
+  where
+    pick : (a b : Bool) → (if a then moves.send (without_lines v) number args else if b then moves.throw (without_lines v) number args else moves.close (without_lines v) (unlined f) number args)
+        ≡ all (if a then moves.send v number args else if b then moves.throw v number args else moves.close v f number args)
+    pick true b = send v number args
+    pick false true = throw v number args
+    pick false false = close v f number args
+
+method_on : (v : FramesView) (f : Frame) (method : ℕ) (o : Option ℕ) (args : List Value) → moves.method_on (without_lines v) (unlined f) method o args ≡ all (moves.method_on v f method o args)
+method_on v f method None args = refl
+method_on v f method (Some number) args = method_of v f method number args
+
+numbered : (number : ℕ) (g : Option Generator) → moves.numbered number (option_map unlined_generator g) ≡ moves.numbered number g
+numbered number None = refl
+numbered number (Some g) = refl
+
+generator_at : (v : FramesView) (layer : Value-F Value Exc) → moves.generator_at (without_lines v) layer ≡ moves.generator_at v layer
+generator_at v (Value-F.Gen number) = ap (λ (g : Option Generator). moves.numbered number g) (slice_get-map unlined_generator v.generators number) ∙ numbered number (slice_get v.generators number)
+generator_at v _ = refl
+
+first_generator : (v : FramesView) (args : List Value) → moves.first_generator (without_lines v) args ≡ moves.first_generator v args
+first_generator v [] = refl
+first_generator v (x ∷ args) = generator_at v (out-Value x)
 
 calls_builtin : (p : Parts) (v : FramesView) (f : Frame) (number : ℕ) (args : List Value) → moves.calls_builtin p (without_lines v) (unlined f) number args ≡ all (moves.calls_builtin p v f number args)
 calls_builtin p v f number args = pick (nat_lt number moves.named_builtins) (nat_lt number 14)
   where
     pick : (a b : Bool)
         → (if a then moves.given_move (unlined f) (builtins.builtin_due number args p.names (without_lines v)).0 (builtins.builtin_due number args p.names (without_lines v)).1
-        else if b then moves.method_on (without_lines v) (moves.first_generator (without_lines v) args) else moves.throws_trouble (without_lines v) (trouble 4))
+        else if b then moves.method_on (without_lines v) (unlined f) number (moves.first_generator (without_lines v) args) (drop 1 args) else moves.throws_trouble (without_lines v) (trouble 4))
         ≡ all (if a then moves.given_move f (builtins.builtin_due number args p.names v).0 (builtins.builtin_due number args p.names v).1
-        else if b then moves.method_on v (moves.first_generator v args) else moves.throws_trouble v (trouble 4))
+        else if b then moves.method_on v f number (moves.first_generator v args) (drop 1 args) else moves.throws_trouble v (trouble 4))
     pick true b = ap (λ (d : Given × FramesView). moves.given_move (unlined f) d.0 d.1) (builtin_due v number args p.names) ∙ given_move (builtins.builtin_due number args p.names v).1 f (builtins.builtin_due number args p.names v).0
-    pick false true = method_of_first v args
+    pick false true = ap (λ (o : Option ℕ). moves.method_on (without_lines v) (unlined f) number o (drop 1 args)) (first_generator v args) ∙ method_on v f number (moves.first_generator v args) (drop 1 args)
     pick false false = refl
 
 calls_at : (p : Parts) (v : FramesView) (f : Frame) (args : List Value) (layer : Value-F Value Exc) → moves.calls_at p (without_lines v) (unlined f) args layer ≡ all (moves.calls_at p v f args layer)
@@ -433,12 +577,21 @@ return_value : (v : FramesView) (f : Frame) (stack : List Value) → moves.retur
 return_value v f [] = in_own v (misses f)
 return_value v f (x ∷ rest) = ap (λ (w : FramesView). moved w (Ending.Returns x)) (framed v (moves.with_stack f rest))
 
+yield_value : (v : FramesView) (f : Frame) (stack : List Value) → moves.yield_value (without_lines v) (unlined f) stack ≡ all (moves.yield_value v f stack)
+yield_value v f [] = in_own v (misses f)
+yield_value v f (x ∷ rest) = ap (λ (w : FramesView). moved w (Ending.Yields x)) (framed v (record f { index = f.index + 1; stack = rest }))
+
+return_generator : (v : FramesView) (f : Frame) → moves.return_generator (without_lines v) (unlined f) ≡ all (moves.return_generator v f)
+return_generator v f = ap (λ (w : FramesView). moved w Ending.Parks) (framed v (record f { index = 1 }))
+
 move_of : (p : Parts) (op : Op) (n : ℕ) (f : Frame) (v : FramesView) → moves.move_of p op n (unlined f) (without_lines v) ≡ all (moves.move_of p op n f v)
 move_of p Op.GetIter n f v = get_iter v f f.stack
 move_of p Op.ForIter n f v = for_iter v f f.stack
 move_of p Op.RaiseVarargs n f v = raise_varargs v n f
 move_of p Op.Call n f v = calls_found p v n f (moves.callee_in n f.stack)
 move_of p Op.ReturnValue n f v = return_value v f f.stack
+move_of p Op.ReturnGenerator n f v = return_generator v f
+move_of p Op.YieldValue n f v = yield_value v f f.stack
 move_of p _ n f v = refl
 
 operated : (p : Parts) (op : Op) (n : ℕ) (f : Frame) (v : FramesView) (m : Option FrameMove) → moves.operated p op n (unlined f) (without_lines v) (bare_if m) ≡ all (moves.operated p op n f v m)
@@ -481,21 +634,61 @@ gives_to : (p : Parts) (v : FramesView) (calls : List Call) (x : Value) → give
 gives_to p v [] x = refl
 gives_to p v (call ∷ calls) x = takes v call.frame x (stands_at p call.frame)
 
-leaves_from : (p : Parts) (f : Frame) (o : Origin) (below : List Call) (gs : List Generator) (its : List (List Value)) (x : Value)
-    → let v : FramesView = record { calls = record { frame = f; origin = o } ∷ below; generators = gs; iterators = its } in leaves p (without_lines v) (Some o) x ≡ unlined_state (leaves p v (Some o) x)
-leaves_from p f Plain below gs its x = gives_to p (record { calls = below; generators = gs; iterators = its }) below x
-leaves_from p f (Generated number by) below gs its x = refl
+left : (o : Origin) (gs : List Generator) → after_leaving o (map unlined_generator gs) ≡ map unlined_generator (after_leaving o gs)
+left Plain gs = refl
+left (Generated number by) gs = set_map unlined_generator gs number Finished
 
-leaves_top : (p : Parts) (calls : List Call) (gs : List Generator) (its : List (List Value)) (x : Value)
-    → let v : FramesView = record { calls = calls; generators = gs; iterators = its } in leaves p (without_lines v) (origin_in (map unlined_call calls)) x ≡ unlined_state (leaves p v (origin_in calls) x)
-leaves_top p [] gs its x = refl
-leaves_top p (call ∷ calls) gs its x = leaves_from p call.frame call.origin calls gs its x
+module _ (p : Parts) (its : List (List Value)) where
+  abbrev standing : List Call → List Generator → FramesView
+  standing calls gs = record { calls = calls; generators = gs; iterators = its }
+
+  returned : (o : Origin) (v : FramesView) (x : Value) → gives_returned p (without_lines v) o x ≡ unlined_state (gives_returned p v o x)
+  returned Plain v x = gives_to p v v.calls x
+  returned (Generated number by.For) v x = gives_to p v v.calls (Done (Some (stop_with x)))
+  returned (Generated number (by.Call builtin)) v x = refl
+
+  leaves_top : (calls : List Call) (gs : List Generator) (x : Value) → leaves p (without_lines (standing calls gs)) (map unlined_call calls) x ≡ unlined_state (leaves p (standing calls gs) calls x)
+  leaves_top [] gs x = refl
+  leaves_top (call ∷ []) gs x = ap (λ (l : List Generator). in_mode_of (standing [] l) (Mode.Ended (Outcome.Returned x))) (left call.origin gs)
+  leaves_top (call ∷ caller ∷ calls) gs x =
+      ap (λ (l : List Generator). gives_returned p (standing (map unlined_call (caller ∷ calls)) l) call.origin x) (left call.origin gs) ∙ returned call.origin (standing (caller ∷ calls) (after_leaving call.origin gs)) x
+
+  yielded : (number : ℕ) (by : By) (v : FramesView) (x : Value) → gives_yielded p (without_lines v) number by x ≡ unlined_state (gives_yielded p v number by x)
+  yielded number by.For v x = gives_to p v v.calls x
+  yielded number (by.Call builtin) v x = refl
+
+  yields_as : (f : Frame) (o : Origin) (below : List Call) (gs : List Generator) (x : Value)
+      → let v = standing (record { frame = f; origin = o } ∷ below) gs in yields_from p (without_lines v) o (map unlined_call below) x ≡ unlined_state (yields_from p v o below x)
+  yields_as f Plain below gs x = refl
+  yields_as f (Generated number by) [] gs x = ap (λ (l : List Generator). in_mode_of (standing [] l) (Mode.Ended (Outcome.Returned x))) (set_map unlined_generator gs number (Suspended f))
+  yields_as f (Generated number by) (caller ∷ calls) gs x =
+      ap (λ (l : List Generator). gives_yielded p (standing (map unlined_call (caller ∷ calls)) l) number by x) (set_map unlined_generator gs number (Suspended f))
+      ∙ yielded number by (standing (caller ∷ calls) (slice_set gs number (Suspended f))) x
+
+  yields_top : (calls : List Call) (gs : List Generator) (x : Value) → yields p (without_lines (standing calls gs)) (map unlined_call calls) x ≡ unlined_state (yields p (standing calls gs) calls x)
+  yields_top [] gs x = refl
+  yields_top (call ∷ calls) gs x = yields_as call.frame call.origin calls gs x
+
+  parks_as : (f : Frame) (o : Origin) (below : List Call) (gs : List Generator)
+      → let v = standing (record { frame = f; origin = o } ∷ below) gs in parks_from p (without_lines v) o ≡ unlined_state (parks_from p v o)
+  parks_as f Plain below gs =
+      ap (λ (l : List Generator). gives_caller p (standing (map unlined_call below) l) (map unlined_call below) (Gen (length (map unlined_generator gs)))) (map_added unlined_generator gs (NotStarted f))
+      ∙ ap (λ (n : ℕ). gives_caller p (standing (map unlined_call below) (map unlined_generator (gs ++ NotStarted f ∷ []))) (map unlined_call below) (Gen n)) (length-map gs unlined_generator)
+      ∙ gives_to p (standing below (gs ++ NotStarted f ∷ [])) below (Gen (length gs))
+  parks_as f (Generated number by) below gs = refl
+
+  parks_top : (calls : List Call) (gs : List Generator) → parks p (without_lines (standing calls gs)) (map unlined_call calls) ≡ unlined_state (parks p (standing calls gs) calls)
+  parks_top [] gs = refl
+  parks_top (call ∷ calls) gs = parks_as call.frame call.origin calls gs
 
 ending : (p : Parts) (v : FramesView) (e : Ending) → after_ending p (without_lines v) e ≡ unlined_state (after_ending p v e)
 ending p v Ending.Continues = refl
 ending p v (Ending.Raises x) = refl
 ending p v (Ending.Reraises x) = refl
-ending p v (Ending.Returns x) = leaves_top p v.calls v.generators v.iterators x
+ending p v (Ending.Returns x) = leaves_top p v.iterators v.calls v.generators x
+ending p v (Ending.Yields x) = yields_top p v.iterators v.calls v.generators x
+ending p v Ending.Parks = parks_top p v.iterators v.calls v.generators
+ending p v (Ending.ThrowsIn x) = refl
 ending p v Ending.Misses = refl
 
 record Alike (a b : Step) : Type 0 where
@@ -534,25 +727,44 @@ module _ (p : Parts) where
   runs_alike v [] = stuck_alike v
   runs_alike v (call ∷ calls) = in_alike (slice_get p.codes call.frame.code) call.frame v
 
-  goes_out_alike : (v : FramesView) (calls : List Call) (e : Exc) (f : Frame) → Alike (goes_out p (without_lines v) (map unlined_call calls) e (unlined f)) (goes_out p v calls e f)
-  goes_out_alike v [] e f = record { after = same_view v _; printed = refl }
-  goes_out_alike v (call ∷ calls) e f = record { after = same_view v (Mode.Unwind e); printed = refl }
+  goes_out_alike : (v : FramesView) (calls : List Call) (o : Origin) (e : Exc) (f : Frame) → Alike (goes_out p (without_lines v) (map unlined_call calls) o e (unlined f)) (goes_out p v calls o e f)
+  goes_out_alike v [] o e f = record { after = same_view v _; printed = refl }
+  goes_out_alike v (call ∷ calls) (Generated number (by.Call builtin)) e f = record { after = same_view v _; printed = refl }
+  goes_out_alike v (call ∷ calls) (Generated number by.For) e f = record { after = same_view v _; printed = refl }
+  goes_out_alike v (call ∷ calls) Plain e f = record { after = same_view v _; printed = refl }
 
   unwinds_alike : (f : Frame) (o : Origin) (below : List Call) (gs : List Generator) (its : List (List Value)) (e : Exc) (h : Option Handler)
       → let v : FramesView = record { calls = record { frame = f; origin = o } ∷ below; generators = gs; iterators = its } in Alike (unwinds_from p (without_lines v) o e (unlined f) h) (unwinds_from p v o e f h)
-  unwinds_alike f Plain below gs its e (Some h) = record { after = same_frame (record { calls = record { frame = f; origin = Plain } ∷ below; generators = gs; iterators = its }) (caught_in h e f) Mode.Run; printed = refl }
-  unwinds_alike f (Generated number by) below gs its e (Some h) = record { after = same_frame (record { calls = record { frame = f; origin = Generated number by } ∷ below; generators = gs; iterators = its }) (caught_in h e f) Mode.Run; printed = refl }
-  unwinds_alike f Plain below gs its e None = goes_out_alike (record { calls = below; generators = gs; iterators = its }) below e f
-  unwinds_alike f (Generated number by) below gs its e None = stuck_alike (record { calls = record { frame = f; origin = Generated number by } ∷ below; generators = gs; iterators = its })
+  unwinds_alike f o below gs its e (Some h) = record { after = same_frame (record { calls = record { frame = f; origin = o } ∷ below; generators = gs; iterators = its }) (caught_in h e f) Mode.Run; printed = refl }
+  unwinds_alike f o below gs its e None =
+      let w : FramesView = record { calls = below; generators = after_leaving o gs; iterators = its } in
+      subst (λ (l : List Generator). Alike (goes_out p (record { calls = map unlined_call below; generators = l; iterators = its }) (map unlined_call below) o e (unlined f)) (goes_out p w below o e f)) (sym (left o gs)) (goes_out_alike w below o e f)
 
   top_alike : (calls : List Call) (gs : List Generator) (its : List (List Value)) (e : Exc)
       → let v : FramesView = record { calls = calls; generators = gs; iterators = its } in Alike (unwinds p (without_lines v) e (map unlined_call calls)) (unwinds p v e calls)
   top_alike [] gs its e = stuck_alike (record { calls = []; generators = gs; iterators = its })
   top_alike (call ∷ calls) gs its e = unwinds_alike call.frame call.origin calls gs its e (handler_due p call.frame.code call.frame.index)
 
+  finished_alike : (v : FramesView) (f : Frame) (r : Result Value Exc) → unlined_state (finished (without_lines v) (unlined f) r) ≡ unlined_state (finished v f r)
+  finished_alike v f (Ok x) = same_frame v (record f { index = f.index + 1; stack = x ∷ f.stack }) Mode.Run
+  finished_alike v f (Err e) = same_view v (Mode.Unwind e)
+
+  finishes_alike : (v : FramesView) (a : Answer) (calls : List Call) → Alike (finishes p (without_lines v) a (map unlined_call calls)) (finishes p v a calls)
+  finishes_alike v a [] = stuck_alike v
+  finishes_alike v a (call ∷ calls) = in_some (slice_get p.codes call.frame.code)
+    where
+      at_some : (c : Code) (l : Option Location) → Alike (finishes_at p (without_lines v) a c (unlined call.frame) l) (finishes_at p v a c call.frame l)
+      at_some c None = stuck_alike v
+      at_some c (Some l) = record { after = finished_alike v call.frame a.result; printed = refl }
+
+      in_some : (c : Option Code) → Alike (finishes_in p (without_lines v) a c (unlined call.frame)) (finishes_in p v a c call.frame)
+      in_some None = stuck_alike v
+      in_some (Some c) = at_some c (location_at c call.frame.index)
+
   mode_alike : (v : FramesView) (mode : Mode) → Alike (in_mode p (without_lines v) mode) (in_mode p v mode)
   mode_alike v Mode.Run = runs_alike v v.calls
   mode_alike v (Mode.Unwind e) = top_alike v.calls v.generators v.iterators e
+  mode_alike v (Mode.Finish a) = finishes_alike v a v.calls
   mode_alike v (Mode.Ended outcome) = record { after = same_view v (Mode.Ended outcome); printed = refl }
   mode_alike v Mode.Stuck = stuck_alike v
 

@@ -1,11 +1,12 @@
 -- LINE events stand at marked locations.
 use Rattle.std.proofs.Common.{◌≡◌, ℕ, ◌+◌, ◌==◌, Bool, true, false, not, ◌||◌, ◌⊎◌, inl, inr, List, [], ◌∷◌, ◌++◌, refl, sym, ap, subst, ◌∙◌, arith}
-use Rattle.std.specs.Prelude.{Option, Some, None, if◌then◌else◌}
+use Rattle.std.specs.Prelude.{Option, Some, None, Result, Ok, Err, if◌then◌else◌}
 use Rattle.std.specs.List.{AllByRecursion}
 use Rattle.std.proofs.lemmas.Option.{same_Some, none-some}
 use Rattle.std.proofs.Math.Bool.{or-true}
 use Rattle.std.proofs.lemmas.Bool.Decides.{nat_tests}
 use Rattle.mon_values.specs.declared.value.Exc.{Exc}
+use Rattle.mon_values.specs.declared.value.Value.{Value}
 use Rattle.mon_events.specs.declared.event.Event.{Event}
 use Rattle.mon_events.specs.declared.event.Slot.{Slot}
 use Rattle.mon_events.specs.declared.op.Op.{Op}
@@ -16,6 +17,7 @@ use Rattle.mon_code.specs.declared.program.Location.{Location}
 use Rattle.mon_code.specs.Programs.{Parts, location_at}
 use Rattle.mon_code.specs.Checked.{IsLocation, is_marked, is_target, follows_line}
 use Rattle.mon_frames.specs.declared.frame.Frame.{Frame}
+use Rattle.mon_frames.specs.declared.call.By.TheVariants as by
 use Rattle.mon_frames.specs.declared.call.Call.{Call}
 use Rattle.mon_frames.specs.declared.call.Origin.{Origin}
 use Rattle.mon_frames.specs.declared.call.Origin.TheVariants.{Plain, Generator as Generated}
@@ -23,9 +25,10 @@ use Rattle.mon_frames.specs.Calls.{handler_due}
 use Rattle.mon_frames.specs.Views.{FramesView, without_top}
 use Rattle.mon_recorders.specs.declared.happening.Happening.{Happening}
 use Rattle.mon_recorders.specs.declared.happening.Kind.TheVariants.{Local}
+use Rattle.mon_machine.specs.declared.mode.Answer.{Answer}
 use Rattle.mon_machine.specs.declared.mode.Ending.{Ending}
 use Rattle.mon_machine.specs.State.{Move}
-use Rattle.mon_machine.specs.Events.{Shown, shown, of_call, happens, offset, line_events, in_main, local_event, slot_events, ancillary_events, raise_events, instruction_events}
+use Rattle.mon_machine.specs.Events.{Shown, shown, of_call, happens, offset, line_events, in_main, local_event, slot_events, ancillary_events, throw_events, raise_events, instruction_events, answer_events}
 use Rattle.mon_machine.specs.Step.{goes_out, unwinds_from, unwinds}
 use Rattle.mon_machine.specs.Laws.{MarksLine, is_line_kind}
 use Rattle.mon_machine.proofs.Heard.{all_append}
@@ -119,12 +122,19 @@ ancillary_marked : (p : Parts) (event : Option Event) (s : Shown) (location : �
 ancillary_marked p None s location f other = tt
 ancillary_marked p (Some event) s location f other = (record { marked = λ e. absurd (other e); alone = λ e. cc }, tt)
 
-raise_marked : (p : Parts) (f : Frame) (ending : Ending) → AllByRecursion (MarksLine p) (raise_events p f ending)
-raise_marked p f Ending.Continues = tt
-raise_marked p f (Ending.Raises e) = (record { marked = λ h. cc; alone = λ h. cc }, tt)
-raise_marked p f (Ending.Reraises e) = (record { marked = λ h. cc; alone = λ h. cc }, tt)
-raise_marked p f (Ending.Returns x) = tt
-raise_marked p f Ending.Misses = tt
+throw_marked : (p : Parts) (e : Exc) (calls : List Call) → AllByRecursion (MarksLine p) (throw_events p e calls)
+throw_marked p e [] = tt
+throw_marked p e (call ∷ calls) = (record { marked = λ h. cc; alone = λ h. cc }, (record { marked = λ h. cc; alone = λ h. cc }, tt))
+
+raise_marked : (p : Parts) (f : Frame) (calls : List Call) (ending : Ending) → AllByRecursion (MarksLine p) (raise_events p f calls ending)
+raise_marked p f calls Ending.Continues = tt
+raise_marked p f calls (Ending.Raises e) = (record { marked = λ h. cc; alone = λ h. cc }, tt)
+raise_marked p f calls (Ending.Reraises e) = (record { marked = λ h. cc; alone = λ h. cc }, tt)
+raise_marked p f calls (Ending.Returns x) = tt
+raise_marked p f calls (Ending.Yields x) = tt
+raise_marked p f calls Ending.Parks = tt
+raise_marked p f calls (Ending.ThrowsIn e) = throw_marked p e calls
+raise_marked p f calls Ending.Misses = tt
 
 -- of an instruction
 pub instruction_marked : (p : Parts) (c : Code) (op : Op) (l : Location) (f : Frame) (m : Move) → IsOf p c f → location_at c f.index ≡ Some l → IsLocation p.bases c f.index (line_before None c.locations f.index) op l
@@ -134,24 +144,30 @@ instruction_marked p c op l f m is_of stands known came other =
     let location : ℕ = c.first + f.index in
     let main = slot_events (local_event p op l.argument f m) location f in
     let ancillary = ancillary_events m.ancillary (of_call p l.argument f.stack) location f in
-    let raised = raise_events p f m.ending in
+    let raised = raise_events p f m.frames.calls m.ending in
     let instruction = happens Event.Instruction (Local location Slot.Instruction) f (offset f) in
     all_append (MarksLine p) (line_events f location l.line f.line) (instruction ∷ (main ++ (ancillary ++ raised))) (line_marked p c op l f (record { is_of = is_of; stands = stands; known = known; came = came })) (
       quiet p instruction (λ e. cc) refl,
       all_append (MarksLine p) main (ancillary ++ raised) (main_marked p (main_event op l.argument) (shown p op l.argument f m.frames.calls) location f (main_event_other op l.argument))
-          (all_append (MarksLine p) ancillary raised (ancillary_marked p m.ancillary (of_call p l.argument f.stack) location f other) (raise_marked p f m.ending)),
+          (all_append (MarksLine p) ancillary raised (ancillary_marked p m.ancillary (of_call p l.argument f.stack) location f other) (raise_marked p f m.frames.calls m.ending)),
     )
 
-goes_out_marked : (p : Parts) (v : FramesView) (calls : List Call) (e : Exc) (f : Frame) → AllByRecursion (MarksLine p) (goes_out p v calls e f).events
-goes_out_marked p v [] e f = (record { marked = λ h. cc; alone = λ h. cc }, tt)
-goes_out_marked p v (call ∷ calls) e f = (record { marked = λ h. cc; alone = λ h. cc }, (record { marked = λ h. cc; alone = λ h. cc }, tt))
+goes_out_marked : (p : Parts) (v : FramesView) (calls : List Call) (o : Origin) (e : Exc) (f : Frame) → AllByRecursion (MarksLine p) (goes_out p v calls o e f).events
+goes_out_marked p v [] o e f = (record { marked = λ h. cc; alone = λ h. cc }, tt)
+goes_out_marked p v (call ∷ calls) (Generated number (by.Call builtin)) e f = (record { marked = λ h. cc; alone = λ h. cc }, tt)
+goes_out_marked p v (call ∷ calls) (Generated number by.For) e f = (record { marked = λ h. cc; alone = λ h. cc }, (record { marked = λ h. cc; alone = λ h. cc }, tt))
+goes_out_marked p v (call ∷ calls) Plain e f = (record { marked = λ h. cc; alone = λ h. cc }, (record { marked = λ h. cc; alone = λ h. cc }, tt))
 
 unwinds_from_marked : (p : Parts) (v : FramesView) (o : Origin) (e : Exc) (f : Frame) (h : Option Handler) → AllByRecursion (MarksLine p) (unwinds_from p v o e f h).events
 unwinds_from_marked p v o e f (Some h) = (record { marked = λ h. cc; alone = λ h. cc }, tt)
-unwinds_from_marked p v Plain e f None = goes_out_marked p (without_top v) (without_top v).calls e f
-unwinds_from_marked p v (Generated number by) e f None = tt
+unwinds_from_marked p v o e f None = goes_out_marked p (without_top v) (without_top v).calls o e f
 
 -- of an exception that goes on
 pub unwinds_marked : (p : Parts) (v : FramesView) (e : Exc) (calls : List Call) → AllByRecursion (MarksLine p) (unwinds p v e calls).events
 unwinds_marked p v e [] = tt
 unwinds_marked p v e (call ∷ calls) = unwinds_from_marked p v call.origin e call.frame (handler_due p call.frame.code call.frame.index)
+
+-- of a call that has its answer
+pub answer_marked : (p : Parts) (a : Answer) (location : ℕ) (f : Frame) (result : Result Value Exc) → AllByRecursion (MarksLine p) (answer_events p a location f result)
+answer_marked p a location f (Ok x) = (record { marked = λ h. cc; alone = λ h. cc }, tt)
+answer_marked p a location f (Err e) = (record { marked = λ h. cc; alone = λ h. cc }, (record { marked = λ h. cc; alone = λ h. cc }, tt))

@@ -1,6 +1,7 @@
 -- The events of a step stand at its location, and so do its loads.
 use Rattle.std.proofs.Common.{◌≡◌, ℕ, zero, suc, ◌+◌, ◌==◌, Bool, true, false, cond, List, [], ◌∷◌, ◌++◌, length, get_or, refl, ap, ◌∙◌, append-nil}
-use Rattle.std.specs.Prelude.{Option, Some, None, slice_get, if◌then◌else◌}
+use Rattle.std.specs.Prelude.{Option, Some, None, Result, Ok, Err, slice_get, if◌then◌else◌}
+use Rattle.mon_values.specs.declared.value.Value.{Value}
 use Rattle.mon_values.specs.declared.value.Exc.{Exc}
 use Rattle.mon_events.specs.declared.event.Event.{Event}
 use Rattle.mon_events.specs.declared.event.Slot.{Slot}
@@ -11,6 +12,7 @@ use Rattle.mon_code.specs.declared.program.Handler.{Handler}
 use Rattle.mon_code.specs.declared.program.Location.{Location}
 use Rattle.mon_code.specs.Programs.{Parts, op_at, location_at}
 use Rattle.mon_frames.specs.declared.frame.Frame.{Frame}
+use Rattle.mon_frames.specs.declared.call.By.TheVariants as by
 use Rattle.mon_frames.specs.declared.call.Call.{Call}
 use Rattle.mon_frames.specs.declared.call.Origin.{Origin}
 use Rattle.mon_frames.specs.declared.call.Origin.TheVariants.{Plain, Generator as Generated}
@@ -25,14 +27,15 @@ use Rattle.mon_recorders.specs.declared.happening.Kind.TheVariants.{Local}
 use Rattle.mon_recorders.specs.Happenings.{for_tools}
 use Rattle.mon_recorders.specs.Readings.{in_turn}
 use Rattle.mon_recorders.specs.Boards.{AreAt}
+use Rattle.mon_machine.specs.declared.mode.Answer.{Answer}
 use Rattle.mon_machine.specs.declared.mode.Mode.{Mode}
 use Rattle.mon_machine.specs.declared.mode.Ending.{Ending}
 use Rattle.mon_machine.specs.State.{State, Move, with_frame}
 use Rattle.mon_machine.specs.Moves.{effect}
-use Rattle.mon_machine.specs.Events.{Shown, shown, of_call, happens, offset, line_events, in_main, local_event, slot_events, ancillary_events, raise_events, instruction_events}
-use Rattle.mon_machine.specs.Step.{step, in_mode, runs_top, in_code, at_location, with_line, goes_out, unwinds_from, unwinds}
+use Rattle.mon_machine.specs.Events.{Shown, shown, of_call, happens, offset, line_events, in_main, local_event, slot_events, ancillary_events, throw_events, raise_events, instruction_events, answer_events}
+use Rattle.mon_machine.specs.Step.{step, in_mode, runs_top, in_code, at_location, with_line, goes_out, unwinds_from, unwinds, finishes_at, finishes_in, finishes}
 use Rattle.mon_machine.specs.Run.{after_steps}
-use Rattle.mon_machine.specs.Advances.{Due, due_at, due_in, due_in_top, due_in_mode, instruction_due, any_global, any_enabled, loads_for, location_load, loads_of, board_at, loads_by}
+use Rattle.mon_machine.specs.Advances.{Due, due_at, due_in, due_in_top, unpolled, due_in_mode, instruction_due, any_global, any_enabled, loads_for, location_load, loads_of, board_at, loads_by}
 use Rattle.mon_machine.specs.AdvanceLaws.{StandAt, EventsStandAtSteps, location_read, LoadsStandAtSteps}
 
 at_append : (location : ℕ) (xs ys : List Happening) → AreAt location xs → AreAt location ys → AreAt location (xs ++ ys)
@@ -58,24 +61,36 @@ module _ (p : Parts) (location : ℕ) (f : Frame) where
   ancillary_at None s = tt
   ancillary_at (Some event) s = (refl, tt)
 
-  raise_at : (ending : Ending) → AreAt location (raise_events p f ending)
-  raise_at Ending.Continues = tt
-  raise_at (Ending.Raises e) = (tt, tt)
-  raise_at (Ending.Reraises e) = (tt, tt)
-  raise_at (Ending.Returns x) = tt
-  raise_at Ending.Misses = tt
+  throw_at : (e : Exc) (calls : List Call) → AreAt location (throw_events p e calls)
+  throw_at e [] = tt
+  throw_at e (call ∷ calls) = (tt, (tt, tt))
+
+  raise_at : (calls : List Call) (ending : Ending) → AreAt location (raise_events p f calls ending)
+  raise_at calls Ending.Continues = tt
+  raise_at calls (Ending.Raises e) = (tt, tt)
+  raise_at calls (Ending.Reraises e) = (tt, tt)
+  raise_at calls (Ending.Returns x) = tt
+  raise_at calls (Ending.Yields x) = tt
+  raise_at calls Ending.Parks = tt
+  raise_at calls (Ending.ThrowsIn e) = throw_at e calls
+  raise_at calls Ending.Misses = tt
+
+  -- of a call that has its answer
+  pub answer_at : (a : Answer) (r : Result Value Exc) → AreAt location (answer_events p a location f r)
+  answer_at a (Ok x) = (refl, tt)
+  answer_at a (Err e) = (refl, (tt, tt))
 
   -- of an instruction
   pub instruction_at : (op : Op) (n : ℕ) (line : Option ℕ) (m : Move) → AreAt location (instruction_events p op n location line f m)
   instruction_at op n line m =
       let main = slot_events (local_event p op n f m) location f in
       let ancillary = ancillary_events m.ancillary (of_call p n f.stack) location f in
-      let raised = raise_events p f m.ending in
+      let raised = raise_events p f m.frames.calls m.ending in
       let instruction = happens Event.Instruction (Local location Slot.Instruction) f (offset f) in
       at_append location (line_events f location line f.line) (instruction ∷ (main ++ (ancillary ++ raised))) (line_at line f.line) (
         refl,
         at_append location main (ancillary ++ raised) (main_at (main_event op n) (shown p op n f m.frames.calls))
-            (at_append location ancillary raised (ancillary_at m.ancillary (of_call p n f.stack)) (raise_at m.ending)),
+            (at_append location ancillary raised (ancillary_at m.ancillary (of_call p n f.stack)) (raise_at m.frames.calls m.ending)),
       )
 
 IsGlobal : Happening → Type 0
@@ -96,22 +111,36 @@ module _ (p : Parts) where
   topped v [] = tt
   topped v (call ∷ calls) = coded (slice_get p.codes call.frame.code) call.frame v
 
-  out_global : (v : FramesView) (calls : List Call) (e : Exc) (f : Frame) → StandAt None (goes_out p v calls e f).events
-  out_global v [] e f = (refl, tt)
-  out_global v (call ∷ calls) e f = (refl, (refl, tt))
+  out_global : (v : FramesView) (calls : List Call) (o : Origin) (e : Exc) (f : Frame) → StandAt None (goes_out p v calls o e f).events
+  out_global v [] o e f = (refl, tt)
+  out_global v (call ∷ calls) (Generated number (by.Call builtin)) e f = (refl, tt)
+  out_global v (call ∷ calls) (Generated number by.For) e f = (refl, (refl, tt))
+  out_global v (call ∷ calls) Plain e f = (refl, (refl, tt))
 
   from_global : (v : FramesView) (o : Origin) (e : Exc) (f : Frame) (h : Option Handler) → StandAt None (unwinds_from p v o e f h).events
   from_global v o e f (Some h) = (refl, tt)
-  from_global v Plain e f None = out_global (without_top v) (without_top v).calls e f
-  from_global v (Generated number by) e f None = tt
+  from_global v o e f None = out_global (without_top v) (without_top v).calls o e f
 
   unwinds_global : (v : FramesView) (e : Exc) (calls : List Call) → StandAt None (unwinds p v e calls).events
   unwinds_global v e [] = tt
   unwinds_global v e (call ∷ calls) = from_global v call.origin e call.frame (handler_due p call.frame.code call.frame.index)
 
+  finish_located : (v : FramesView) (a : Answer) (c : Code) (f : Frame) (l : Option Location) → StandAt (unpolled (due_at (c.first + f.index) l)) (finishes_at p v a c f l).events
+  finish_located v a c f None = tt
+  finish_located v a c f (Some l) = answer_at p (c.first + f.index) f a a.result
+
+  finish_coded : (v : FramesView) (a : Answer) (c : Option Code) (f : Frame) → StandAt (unpolled (due_in c f.index)) (finishes_in p v a c f).events
+  finish_coded v a None f = tt
+  finish_coded v a (Some c) f = finish_located v a c f (location_at c f.index)
+
+  finish_topped : (v : FramesView) (a : Answer) (calls : List Call) → StandAt (unpolled (due_in_top p calls)) (finishes p v a calls).events
+  finish_topped v a [] = tt
+  finish_topped v a (call ∷ calls) = finish_coded v a (slice_get p.codes call.frame.code) call.frame
+
   stand_in : (v : FramesView) (mode : Mode) → StandAt (due_in_mode p v.calls mode) (in_mode p v mode).events
   stand_in v Mode.Run = topped v v.calls
   stand_in v (Mode.Unwind e) = unwinds_global v e v.calls
+  stand_in v (Mode.Finish a) = finish_topped v a v.calls
   stand_in v (Mode.Ended outcome) = tt
   stand_in v Mode.Stuck = tt
 

@@ -33,6 +33,7 @@ printed_last p s (suc n) =
 nothing_printed : (p : Parts) (v : FramesView) (m : Mode) → goes m ≡ false → (in_mode p v m).printed ≡ []
 nothing_printed p v Mode.Run e = let h : true ≡ false = e in cc
 nothing_printed p v (Mode.Unwind x) e = let h : true ≡ false = e in cc
+nothing_printed p v (Mode.Finish a) e = let h : true ≡ false = e in cc
 nothing_printed p v (Mode.Ended outcome) e = refl
 nothing_printed p v Mode.Stuck e = refl
 

@@ -1,7 +1,7 @@
 -- Events stand where their kinds say.
 use Rattle.std.proofs.Common.{◌≡◌, ℕ, zero, suc, ◌+◌, ◌<◌, ◌==◌, Bool, true, false, ◌⊎◌, inl, inr, List, [], ◌∷◌, ◌++◌, length, get_or, refl, sym, ap, ◌∙◌, arith}
 use Rattle.std.specs.Prelude.{Option, Some, None, slice_get, Result, Ok, Err, if◌then◌else◌}
-use Rattle.mon_values.specs.declared.value.Value.{Value}
+use Rattle.mon_values.specs.declared.value.Value.{Value, None as Nothing}
 use Rattle.mon_values.specs.declared.value.Value.TheOpen.{Value-F}
 use Rattle.mon_values.specs.declared.value.Value.TheViews.{out-Value}
 use Rattle.mon_values.specs.declared.value.Exc.{Exc}
@@ -21,7 +21,11 @@ use Rattle.mon_code.specs.Sites.{site_at, site_in, sites_of, event_of, slot_even
 use Rattle.mon_code.proofs.Sites.{site_there, site_within, sites_long}
 use Rattle.mon_frames.specs.declared.frame.Frame.{Frame}
 use Rattle.mon_frames.specs.declared.call.Call.{Call}
-use Rattle.mon_frames.specs.declared.call.Generator.{Generator}
+use Rattle.mon_frames.specs.declared.call.By.TheVariants as by
+use Rattle.mon_frames.specs.declared.fault.ResumeFault.{ResumeFault}
+use Rattle.mon_frames.specs.declared.fault.ResumeFault.TheVariants as fault
+use Rattle.mon_frames.specs.declared.generator.Generator.{Generator}
+use Rattle.mon_frames.specs.Generators.{resumed}
 use Rattle.mon_frames.specs.declared.call.Origin.{Origin}
 use Rattle.mon_frames.specs.declared.call.Origin.TheVariants.{Plain, Generator as Generated}
 use Rattle.mon_frames.specs.Calls.{handler_due}
@@ -30,11 +34,12 @@ use Rattle.mon_frames.specs.Views.{FramesView, handled_in, without_top}
 use Rattle.mon_recorders.specs.declared.happening.Happening.{Happening}
 use Rattle.mon_recorders.specs.declared.happening.Kind.TheVariants.{Local}
 use Rattle.mon_recorders.specs.Proper.{IsOfSlot, IsProper, AreProper}
+use Rattle.mon_machine.specs.declared.mode.Answer.{Answer}
 use Rattle.mon_machine.specs.declared.mode.Ending.{Ending}
 use Rattle.mon_machine.specs.State.{FrameMove, Move, with_frame, in_top}
-use Rattle.mon_machine.specs.Moves.{with_stack, get_iter, iterates, for_iter, for_iter_at, for_generator, raises_again, return_value, operated, effect}
+use Rattle.mon_machine.specs.Moves.{with_stack, get_iter, iterates, for_iter, for_iter_at, loops, for_generator, raises_again, return_value, yield_value, operated, effect}
 use Rattle.mon_machine.specs.Operations.{operation, raise_top}
-use Rattle.mon_machine.specs.Events.{Shown, shown, of_call, happens, offset, showing, line_events, in_main, local_event, slot_events, ancillary_events, raise_events, instruction_events}
+use Rattle.mon_machine.specs.Events.{Shown, shown, of_call, happens, offset, showing, line_events, in_main, local_event, slot_events, ancillary_events, of_answer, of_exception, throw_events, raise_events, instruction_events, answer_events}
 use Rattle.mon_machine.specs.Step.{goes_out, unwinds_from, unwinds}
 use Rattle.mon_machine.proofs.Heard.{all_append}
 use Rattle.mon_machine.proofs.Fitting.{line_before}
@@ -51,12 +56,20 @@ module _ (v : FramesView) (f : Frame) where
   get_none [] = refl
   get_none (x ∷ rest) = over_frames (with_frame v (with_stack f rest)) (with_stack f rest) (iterated (with_frame v (with_stack f rest)) x)
 
-  generator_none : (g : Option Generator) → (for_generator v g).ancillary ≡ None
-  generator_none None = refl
-  generator_none (Some g) = refl
+  loops_none : (r : Result FramesView ResumeFault) → (loops v f r).ancillary ≡ None
+  loops_none (Ok w) = refl
+  loops_none (Err fault.Running) = refl
+  loops_none (Err fault.Finished) = refl
+  loops_none (Err fault.NotNone) = refl
+  loops_none (Err fault.Full) = refl
+  loops_none (Err fault.Memory) = refl
+
+  generator_none : (number : ℕ) (g : Option Generator) → (for_generator v f number g).ancillary ≡ None
+  generator_none number None = refl
+  generator_none number (Some g) = loops_none (resumed v number Nothing by.For)
 
   for_none : (x : Value-F Value Exc) → (for_iter_at v f x).ancillary ≡ None
-  for_none (Value-F.Gen number) = generator_none (slice_get v.generators number)
+  for_none (Value-F.Gen number) = generator_none number (slice_get v.generators number)
   for_none _ = refl
 
   over_none : (stack : List Value) → (for_iter v f stack).ancillary ≡ None
@@ -70,6 +83,10 @@ module _ (v : FramesView) (f : Frame) where
   return_none : (stack : List Value) → (return_value v f stack).ancillary ≡ None
   return_none [] = refl
   return_none (x ∷ rest) = refl
+
+  yield_none : (stack : List Value) → (yield_value v f stack).ancillary ≡ None
+  yield_none [] = refl
+  yield_none (x ∷ rest) = refl
 
 pub effect_none : (p : Parts) (c : Code) (op : Op) (n : ℕ) (f : Frame) (v : FramesView) → (op ≡ Op.Call) ⊎ ((effect p c op n f v).ancillary ≡ None)
 effect_none p c op n f v = pick op (operation p c op n f)
@@ -85,6 +102,7 @@ effect_none p c op n f v = pick op (operation p c op n f)
     pick Op.ForIter None = inr (over_none v f f.stack)
     pick Op.RaiseVarargs None = inr (raise_none (n == 0) (raise_top f f.stack))
     pick Op.ReturnValue None = inr (return_none v f f.stack)
+    pick Op.YieldValue None = inr (yield_none v f f.stack)
     pick _ None = inr refl
 
 LocalIf : Option Event → Type 0
@@ -151,12 +169,19 @@ module _ (p : Parts) (c : Code) (op : Op) (l : Location) (f : Frame) (checked : 
   ancillary_proper (Some v) s (inl call) = (record { within = within; call = ap (λ (s : Site). s.main) here ∙ (main_is ∙ ap (λ o. main_event o l.argument) call) }, tt)
   ancillary_proper (Some v) s (inr none) = absurd (cc)
 
-  raise_proper : (ending : Ending) → AreProper (sites_of p) (raise_events p f ending)
-  raise_proper Ending.Continues = tt
-  raise_proper (Ending.Raises e) = (refl, tt)
-  raise_proper (Ending.Reraises e) = (refl, tt)
-  raise_proper (Ending.Returns x) = tt
-  raise_proper Ending.Misses = tt
+  throw_proper : (e : Exc) (calls : List Call) → AreProper (sites_of p) (throw_events p e calls)
+  throw_proper e [] = tt
+  throw_proper e (call ∷ calls) = (refl, (refl, tt))
+
+  raise_proper : (calls : List Call) (ending : Ending) → AreProper (sites_of p) (raise_events p f calls ending)
+  raise_proper calls Ending.Continues = tt
+  raise_proper calls (Ending.Raises e) = (refl, tt)
+  raise_proper calls (Ending.Reraises e) = (refl, tt)
+  raise_proper calls (Ending.Returns x) = tt
+  raise_proper calls (Ending.Yields x) = tt
+  raise_proper calls Ending.Parks = tt
+  raise_proper calls (Ending.ThrowsIn e) = throw_proper e calls
+  raise_proper calls Ending.Misses = tt
 
   line_proper : IsLocation p.bases c f.index (line_before None c.locations f.index) op l → (is_target p.bases c.first 0 c.locations f.index ≡ true) ⊎ Follows (line_before None c.locations f.index) f.line
       → AreProper (sites_of p) (line_events f (c.first + f.index) l.line f.line)
@@ -172,22 +197,32 @@ module _ (p : Parts) (c : Code) (op : Op) (l : Location) (f : Frame) (checked : 
       let location : ℕ = c.first + f.index in
       let main = slot_events (local_event p op l.argument f m) location f in
       let ancillary = ancillary_events m.ancillary (of_call p l.argument f.stack) location f in
-      let raised = raise_events p f m.ending in
+      let raised = raise_events p f m.frames.calls m.ending in
       let instruction = happens Event.Instruction (Local location Slot.Instruction) f (offset f) in
       all_append P (line_events f location l.line f.line) (instruction ∷ (main ++ (ancillary ++ raised))) (line_proper known came) (
         of_slot Slot.Instruction instruction refl refl refl refl,
         all_append P main (ancillary ++ raised) (main_proper (shown p op l.argument f m.frames.calls))
-            (all_append P ancillary raised (ancillary_proper m.ancillary (of_call p l.argument f.stack) which) (raise_proper m.ending)),
+            (all_append P ancillary raised (ancillary_proper m.ancillary (of_call p l.argument f.stack) which) (raise_proper m.frames.calls m.ending)),
       )
 
-goes_out_proper : (p : Parts) (v : FramesView) (calls : List Call) (e : Exc) (f : Frame) → AreProper (sites_of p) (goes_out p v calls e f).events
-goes_out_proper p v [] e f = (refl, tt)
-goes_out_proper p v (call ∷ calls) e f = (refl, (refl, tt))
+-- of a call that has its answer
+pub answer_proper : (p : Parts) (c : Code) (l : Location) (f : Frame) → IsChecked p → IsOf p c f → location_at c f.index ≡ Some l → op_at p.bases c.first f.index ≡ Some Op.Call → (a : Answer) (r : Result Value Exc)
+    → AreProper (sites_of p) (answer_events p a (c.first + f.index) f r)
+answer_proper p c l f checked is_of stands is a (Ok x) = ancillary_proper p c Op.Call l f checked is_of stands is (Some Event.CReturn) (of_answer p a) (inl refl)
+answer_proper p c l f checked is_of stands is a (Err e) =
+    let P : Happening → Type 0 = IsProper (sites_of p) in
+    let raised = of_exception p Event.Raise e f in
+    all_append P (ancillary_events (Some Event.CRaise) (of_answer p a) (c.first + f.index) f) (raised ∷ []) (ancillary_proper p c Op.Call l f checked is_of stands is (Some Event.CRaise) (of_answer p a) (inl refl)) (refl, tt)
+
+goes_out_proper : (p : Parts) (v : FramesView) (calls : List Call) (o : Origin) (e : Exc) (f : Frame) → AreProper (sites_of p) (goes_out p v calls o e f).events
+goes_out_proper p v [] o e f = (refl, tt)
+goes_out_proper p v (call ∷ calls) (Generated number (by.Call builtin)) e f = (refl, tt)
+goes_out_proper p v (call ∷ calls) (Generated number by.For) e f = (refl, (refl, tt))
+goes_out_proper p v (call ∷ calls) Plain e f = (refl, (refl, tt))
 
 unwinds_from_proper : (p : Parts) (v : FramesView) (o : Origin) (e : Exc) (f : Frame) (h : Option Handler) → AreProper (sites_of p) (unwinds_from p v o e f h).events
 unwinds_from_proper p v o e f (Some h) = (refl, tt)
-unwinds_from_proper p v Plain e f None = goes_out_proper p (without_top v) (without_top v).calls e f
-unwinds_from_proper p v (Generated number by) e f None = tt
+unwinds_from_proper p v o e f None = goes_out_proper p (without_top v) (without_top v).calls o e f
 
 -- of an exception that goes on
 pub unwinds_proper : (p : Parts) (v : FramesView) (e : Exc) (calls : List Call) → AreProper (sites_of p) (unwinds p v e calls).events

@@ -1,6 +1,6 @@
 -- Worked examples: the premises of the laws can be met, and the definitions give what they should.
-use Rattle.std.proofs.Common.{◌≡◌, ℕ, zero, suc, Bool, true, false, ◌&&◌, List, [], ◌∷◌, refl, sym, ap, ◌∙◌, arith}
-use Rattle.std.specs.Prelude.{Option, Some, None, IsTrue, codes, slice_get}
+use Rattle.std.proofs.Common.{◌≡◌, ℕ, Bool, true, false, [], ◌∷◌, refl, sym, ap, ◌∙◌, arith}
+use Rattle.std.specs.Prelude.{Option, Some, None, IsTrue, codes}
 use Rattle.mon_values.specs.declared.value.Value.{Bool as Truth}
 use Rattle.mon_values.specs.declared.value.Value.TheOpen.{Value-F}
 use Rattle.mon_values.specs.declared.value.Value.TheFolds.{fold-roll-Value}
@@ -8,9 +8,7 @@ use Rattle.mon_values.specs.declared.value.Value.TheViews as values
 use Rattle.mon_events.specs.declared.event.Event.{Event}
 use Rattle.mon_code.specs.declared.program.Code.{Code}
 use Rattle.mon_code.specs.declared.program.Location.{Location}
-use Rattle.mon_code.specs.Programs.{Parts, op_in}
-use Rattle.mon_events.specs.declared.op.Op.{Op}
-use Rattle.mon_events.specs.Ops.{op_of}
+use Rattle.mon_code.specs.Programs.{Parts}
 use Rattle.mon_code.specs.Checked.{IsChecked, IsCode, is_constant, constant_step, never}
 use Rattle.mon_recorders.specs.declared.record.Record.{Record}
 use Rattle.mon_recorders.specs.declared.report.Outcome.{Outcome}
@@ -20,7 +18,7 @@ use Rattle.mon_machine.specs.Step.{step}
 use Rattle.mon_recorders.specs.Happenings.{for_tools}
 use Rattle.mon_machine.specs.Run.{after_steps, steps_done}
 use Rattle.mon_machine.specs.Serial.{line_records}
-use Rattle.mon_machine.specs.Laws.{IsCall, runs}
+use Rattle.mon_machine.specs.Laws.{IsCall}
 
 abbrev location : ℕ → Option ℕ → Bool → Bool → ℕ → Location
 location argument line is_marked is_safe stack = record { argument = argument; line = line; is_marked = is_marked; is_safe = is_safe; handler = None; stack = stack; handling = 0 }
@@ -174,31 +172,8 @@ is_checked = record {
   codes = (refl, f_is_code, (refl, g_is_code, refl));
 }
 
-unfoldable pub run_op : Option Op → Bool
-run_op None = true
-run_op (Some op) = runs op
-
-unfoldable pub are_run : List ℕ → Bool
-are_run [] = true
-are_run (b ∷ bs) = run_op (op_of b) && are_run bs
-
-both_left : (x y : Bool) → (x && y) ≡ true → x ≡ true
-both_left true y e = refl
-both_left false y e = cc
-
-both_right : (x y : Bool) → (x && y) ≡ true → y ≡ true
-both_right true y e = e
-both_right false y e = cc
-
-pub all_run : (bases : List ℕ) → are_run bases ≡ true → (location : ℕ) (op : Op) → op_in (slice_get bases location) ≡ Some op → runs op ≡ true
-unfolding are_run run_op
-all_run [] e location op h = cc
-all_run (b ∷ bs) e zero op h = sym (ap run_op h) ∙ both_left (run_op (op_of b)) (are_run bs) e
-all_run (b ∷ bs) e (suc n) op h = all_run bs (both_right (run_op (op_of b)) (are_run bs) e) n op h
-
 f_is_called : IsCall program 0 f []
-unfolding are_run run_op
-f_is_called = record { checked = is_checked; runs = all_run program.bases refl; found = refl; count = refl }
+f_is_called = record { checked = is_checked; found = refl; count = refl }
 
 f_returns : (after_steps program (start f 0 []) 20).mode ≡ Mode.Ended (Outcome.Returned (Truth true))
 unfolding after_steps step

@@ -4,8 +4,8 @@ use Rattle.std.specs.Prelude.{if◌then◌else◌}
 use Rattle.mon_code.specs.Programs.{Parts}
 use Rattle.mon_frames.specs.Views.{FramesView}
 use Rattle.mon_machine.specs.declared.mode.Mode.{Mode}
-use Rattle.mon_machine.specs.State.{State, goes}
-use Rattle.mon_machine.specs.Step.{step, in_mode, in_mode_of}
+use Rattle.mon_machine.specs.State.{State, goes, in_mode_of}
+use Rattle.mon_machine.specs.Step.{step, in_mode}
 use Rattle.mon_machine.specs.Run.{after_steps, steps_done, Goes}
 use Rattle.mon_machine.specs.Laws.{GoesOnByOne}
 
@@ -35,6 +35,7 @@ one_more p s n = after_steps_sum p s n 1
 stands : (p : Parts) (v : FramesView) (m : Mode) → goes m ≡ false → (in_mode p v m).after ≡ in_mode_of v m
 stands p v Mode.Run e = let h : true ≡ false = e in cc
 stands p v (Mode.Unwind x) e = let h : true ≡ false = e in cc
+stands p v (Mode.Finish a) e = let h : true ≡ false = e in cc
 stands p v (Mode.Ended outcome) e = refl
 stands p v Mode.Stuck e = refl
 
@@ -138,6 +139,7 @@ steps_done_within p s (suc n) = pick (goes s.mode) (steps_done_within p (step p 
 silent : (p : Parts) (v : FramesView) (m : Mode) → goes m ≡ false → (in_mode p v m).events ≡ []
 silent p v Mode.Run e = let h : true ≡ false = e in cc
 silent p v (Mode.Unwind x) e = let h : true ≡ false = e in cc
+silent p v (Mode.Finish a) e = let h : true ≡ false = e in cc
 silent p v (Mode.Ended outcome) e = refl
 silent p v Mode.Stuck e = refl
 

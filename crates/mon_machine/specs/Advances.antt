@@ -49,13 +49,19 @@ abbrev pub due_in_top : Parts → List Call → Option Due
 due_in_top p [] = None
 due_in_top p (call ∷ calls) = due_in (slice_get p.codes call.frame.code) call.frame.index
 
+-- a call that goes on is at its own location again, and no thread polls before that
+abbrev pub unpolled : Option Due → Option Due
+unpolled None = None
+unpolled (Some due) = Some (record due { is_safe = false })
+
 abbrev pub due_in_mode : Parts → List Call → Mode → Option Due
 due_in_mode p calls Mode.Run = due_in_top p calls
 due_in_mode p calls (Mode.Unwind e) = None
+due_in_mode p calls (Mode.Finish answer) = unpolled (due_in_top p calls)
 due_in_mode p calls (Mode.Ended outcome) = None
 due_in_mode p calls Mode.Stuck = None
 
--- the instruction of the next step; an exception that goes on has none
+-- the instruction of the next step, or the one that it finishes; an exception that goes on has none
 unfoldable pub instruction_due : Parts → State → Option Due
 instruction_due p s = due_in_mode p s.frames.calls s.mode
 

@@ -1,6 +1,6 @@
 -- What happens in an instruction step.
-use Rattle.std.specs.Prelude.{ℕ, ◌*◌, ◌==◌, List, [], ◌∷◌, ◌++◌, take, Option, Some, None, slice_get, if◌then◌else◌}
-use Rattle.mon_values.specs.declared.value.Value.{Value, Exc as Raised-value}
+use Rattle.std.specs.Prelude.{ℕ, ◌*◌, ◌==◌, List, [], ◌∷◌, ◌++◌, take, Option, Some, None, Result, Ok, Err, slice_get, if◌then◌else◌}
+use Rattle.mon_values.specs.declared.value.Value.{Value, Exc as Raised-value, Builtin, Gen}
 use Rattle.mon_values.specs.declared.value.Value.TheOpen.{Value-F}
 use Rattle.mon_values.specs.declared.value.Value.TheViews.{out-Value}
 use Rattle.mon_values.specs.declared.value.Exc.{Exc}
@@ -15,6 +15,7 @@ use Rattle.mon_frames.specs.declared.call.Call.{Call}
 use Rattle.mon_recorders.specs.declared.happening.Happening.{Happening}
 use Rattle.mon_recorders.specs.declared.happening.Kind.{Kind}
 use Rattle.mon_recorders.specs.declared.happening.Kind.TheVariants.{Local, Global, Ancillary}
+use Rattle.mon_machine.specs.declared.mode.Answer.{Answer}
 use Rattle.mon_machine.specs.declared.mode.Ending.{Ending}
 use Rattle.mon_machine.specs.State.{Move}
 use Rattle.mon_machine.specs.Moves.{callee_in, args_in}
@@ -69,6 +70,10 @@ of_value p v = record { dest = 0; first = cut_or_none p v; second = [] }
 abbrev pub of_call : Parts → ℕ → List Value → Shown
 of_call p n stack = record { dest = 0; first = cut_or_none p (callee_in n stack); second = cut_or_none p (slice_get (args_in n stack) 0) }
 
+-- the builtin and the generator
+abbrev pub of_answer : Parts → Answer → Shown
+of_answer p a = record { dest = 0; first = cut p (Builtin a.builtin); second = cut p (Gen a.generator) }
+
 abbrev pub stopped_at : Parts → Value-F Value Exc → Option Shown
 stopped_at p (Value-F.Done (Some e)) = Some (of_value p (Some (Raised-value e)))
 stopped_at p _ = None
@@ -122,11 +127,17 @@ ancillary_events (Some event) s location f = showing s (happens event (Ancillary
 abbrev pub of_exception : Parts → Event → Exc → Frame → Happening
 of_exception p event e f = showing (of_value p (Some (Raised-value e))) (happens event Global f (offset f))
 
--- RAISE or RERAISE
-abbrev pub raise_events : Parts → Frame → Ending → List Happening
-raise_events p f (Ending.Raises e) = of_exception p Event.Raise e f ∷ []
-raise_events p f (Ending.Reraises e) = of_exception p Event.Reraise e f ∷ []
-raise_events p f _ = []
+-- PY_THROW and RAISE in the generator into which an exception is thrown, whose frame is on top
+abbrev pub throw_events : Parts → Exc → List Call → List Happening
+throw_events p e [] = []
+throw_events p e (call ∷ calls) = of_exception p Event.PyThrow e call.frame ∷ of_exception p Event.Raise e call.frame ∷ []
+
+-- RAISE or RERAISE in the frame of the instruction, as it was before, or what happens in a generator, as it stands after
+abbrev pub raise_events : Parts → Frame → List Call → Ending → List Happening
+raise_events p f calls (Ending.Raises e) = of_exception p Event.Raise e f ∷ []
+raise_events p f calls (Ending.Reraises e) = of_exception p Event.Reraise e f ∷ []
+raise_events p f calls (Ending.ThrowsIn e) = throw_events p e calls
+raise_events p f calls _ = []
 
 -- the events of an instruction in their order, with its frame before
 abbrev pub instruction_events : Parts → Op → ℕ → ℕ → Option ℕ → Frame → Move → List Happening
@@ -135,4 +146,9 @@ instruction_events p op n location line f m =
     ++ (happens Event.Instruction (Local location Slot.Instruction) f (offset f)
     ∷ (slot_events (local_event p op n f m) location f
     ++ (ancillary_events m.ancillary (of_call p n f.stack) location f
-    ++ raise_events p f m.ending)))
+    ++ raise_events p f m.frames.calls m.ending)))
+
+-- the events at the end of a call that resumed a generator, where its frame stands at this location
+abbrev pub answer_events : Parts → Answer → ℕ → Frame → Result Value Exc → List Happening
+answer_events p a location f (Ok x) = ancillary_events (Some Event.CReturn) (of_answer p a) location f
+answer_events p a location f (Err e) = ancillary_events (Some Event.CRaise) (of_answer p a) location f ++ of_exception p Event.Raise e f ∷ []

@@ -3,8 +3,8 @@ use Rattle.std.specs.Prelude.{◌≡◌, ℕ, map, None}
 use Rattle.mon_code.specs.Programs.{Parts}
 use Rattle.mon_frames.specs.declared.frame.Frame.{Frame}
 use Rattle.mon_frames.specs.declared.call.Call.{Call}
-use Rattle.mon_frames.specs.declared.call.Generator.{Generator}
-use Rattle.mon_frames.specs.declared.call.Generator.TheVariants.{NotStarted, Suspended, Running, Finished}
+use Rattle.mon_frames.specs.declared.generator.Generator.{Generator}
+use Rattle.mon_frames.specs.declared.generator.Generator.TheVariants.{NotStarted, Suspended, Running, Finished}
 use Rattle.mon_frames.specs.Views.{FramesView}
 use Rattle.mon_machine.specs.State.{State}
 use Rattle.mon_machine.specs.Run.{after_steps, printed_by}

@@ -6,8 +6,7 @@ use Rattle.mon_events.specs.declared.event.Event.{Event}
 use Rattle.mon_events.specs.declared.event.Slot.{Slot}
 use Rattle.mon_code.specs.declared.program.Code.{Code}
 use Rattle.mon_code.specs.declared.program.Location.{Location}
-use Rattle.mon_events.specs.declared.op.Op.{Op}
-use Rattle.mon_code.specs.Programs.{Parts, location_at, op_in}
+use Rattle.mon_code.specs.Programs.{Parts, location_at}
 use Rattle.mon_code.specs.Checked.{IsChecked}
 use Rattle.mon_code.specs.Sites.{sites_of}
 use Rattle.mon_recorders.specs.Proper.{AreProper}
@@ -18,6 +17,7 @@ use Rattle.mon_recorders.specs.declared.report.Outcome.{Outcome}
 use Rattle.mon_recorders.specs.declared.happening.Happening.{Happening}
 use Rattle.mon_recorders.specs.declared.happening.Kind.{Kind}
 use Rattle.mon_recorders.specs.declared.happening.Kind.TheVariants.{Local, Global, Ancillary}
+use Rattle.mon_machine.specs.declared.mode.Answer.{Answer}
 use Rattle.mon_machine.specs.declared.mode.Mode.{Mode}
 use Rattle.mon_machine.specs.State.{State, goes, start}
 use Rattle.mon_machine.specs.Step.{step}
@@ -46,24 +46,13 @@ pub record IsSum (p : Parts) (s : State) (m n : ℕ) : Type 0 where
 abbrev pub RunsAddUp : Type 0
 RunsAddUp = (p : Parts) (s : State) (m n : ℕ) → IsSum p s m n
 
--- the opcodes that the machine runs so far: all but those of generators
-abbrev pub runs : Op → Bool
-runs Op.ReturnGenerator = false
-runs Op.YieldValue = false
-runs _ = true
-
--- a program has no other
-abbrev pub AllRun : Parts → Type 0
-AllRun p = (location : ℕ) (op : Op) → op_in (slice_get p.bases location) ≡ Some op → runs op ≡ true
-
 -- a code of a checked program is called with as many arguments as it has parameters
 pub record IsCall (p : Parts) (k : ℕ) (c : Code) (args : List Value) : Type 0 where
   pub checked : IsChecked p
-  pub runs : AllRun p
   pub found : slice_get p.codes k ≡ Some c
   pub count : length args ≡ c.parameters
 
--- no operand, no local and no location is ever missing
+-- no operand, no local, no location and no frame is ever missing
 abbrev pub NeverStuck : Type 0
 NeverStuck = (p : Parts) (k : ℕ) (c : Code) (args : List Value) → IsCall p k c args → (n : ℕ) → ¬ ((state_at p k c args n).mode ≡ Mode.Stuck)
 
@@ -77,9 +66,10 @@ pub record FitsDepths (p : Parts) (f : Frame) (index more : ℕ) : Type 0 where
   pub handling : length f.handling ≡ location.handling
 
 -- before an instruction the top frame has the depths that are recorded there; each frame below waits for one value, with
--- which it has those of the index behind its call
+-- which it has those of the index behind its call, and so does the top frame where its call has an answer
 pub record HasDepths (p : Parts) (s : State) : Type 0 where
   pub top : s.mode ≡ Mode.Run → (f : Frame) × (top_of s.frames.calls ≡ Some f) × FitsDepths p f f.index 0
+  pub answered : (a : Answer) → s.mode ≡ Mode.Finish a → (f : Frame) × (top_of s.frames.calls ≡ Some f) × FitsDepths p f (f.index + 1) 1
   pub callers : goes s.mode ≡ true → AllByRecursion (λ (call : Call). FitsDepths p call.frame (call.frame.index + 1) 1) (drop 1 s.frames.calls)
 
 -- at each step of a call the depths are as they are recorded

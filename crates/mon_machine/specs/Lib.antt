@@ -2,6 +2,7 @@ pub mod State
 pub mod Operations
 pub mod Moves
 pub mod Events
+pub mod Giving
 pub mod Step
 pub mod Run
 pub mod PlainRun
@@ -12,3 +13,4 @@ pub mod LastLines
 pub mod Advances
 pub mod AdvanceLaws
 pub mod AdvanceExamples
+pub mod Pools

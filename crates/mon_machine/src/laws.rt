@@ -1,6 +1,7 @@
 ghost use Rattle.mon_machine.specs.AdvanceExamples.{WorkedAdvance};
 ghost use Rattle.mon_machine.specs.AdvanceLaws.{StepsAddUp, StayingAddsUp, PausesAddUp, RunsJoin, RunsContinue, EventsStandAtSteps, LoadsStandAtSteps, BareRuns, LinesAreKept};
 ghost use Rattle.mon_machine.specs.LastLines.{LastLinesAreForEvents};
+ghost use Rattle.mon_machine.specs.Pools.{PoolsGrowByOne, NumbersSuffice};
 ghost use Rattle.mon_machine.specs.Laws.{DepthsAsRecorded, EventsNameCodes, GoesOnByOne, LimitsAreBounds, LineMarks, NeverStuck, ProperEvents, RunsAddUp};
 
 /// A run goes on step by step, and a thread that does not go on stands still.
@@ -19,14 +20,15 @@ pub fn last_lines_are_for_events()
     ensures { LastLinesAreForEvents }
 {}
 
-/// A thread that calls a code of a checked program with the right number of arguments never misses an operand, a local
-/// or a location, if the program has no opcode but those that are run so far.
+/// A thread that calls a code of a checked program with the right number of arguments never misses an operand, a local,
+/// a location or a frame.
 pub fn never_stuck()
     ensures { NeverStuck }
 {}
 
 /// Before each instruction of such a thread, the top frame's operand stack and handling list have the depths that are
-/// recorded at its location. Each frame below has one value less than is recorded behind its call.
+/// recorded at its location. Each frame below has one value less than is recorded behind its call, and so has the top frame
+/// where its call has an answer.
 pub fn depths_as_recorded()
     ensures { DepthsAsRecorded }
 {}
@@ -34,6 +36,12 @@ pub fn depths_as_recorded()
 /// Such a thread has the outcome `Limit` after a number of steps exactly where it did them all and still goes on.
 pub fn limits_are_bounds()
     ensures { LimitsAreBounds }
+{}
+
+/// A step makes one generator and one iterator at most, so that a thread that does no more steps than it may has numbers for all.
+pub fn pools_grow_by_one()
+    ensures grow { PoolsGrowByOne }
+    ensures suffice { NumbersSuffice }
 {}
 
 /// LINE events of such a thread occur at marked locations alone.

@@ -1,8 +1,7 @@
-use Rattle.std.proofs.Common.{◌≡◌, ◌∙◌, length, sym, w64, ℕ}
+use Rattle.std.proofs.Common.{◌≡◌, ◌∙◌, sym, w64, ℕ}
 use Rattle.std.specs.Prelude.{FitsSigned}
 use Rattle.std.proofs.lemmas.Int.{to_z-of_z}
 use Rattle.mon_values.specs.Ranges.{range_length}
-use Rattle.mon_frames.specs.Items.{range_items}
 use Rattle.mon_frames.proofs.Ranges.{length_range}
 use Rattle.mon_frames.proofs.iteration.integer_count.Goals as goal
 

@@ -1,4 +1,4 @@
-use Rattle.std.proofs.Common.{◌≡◌, ◌≤◌, ◌∷◌, ℕ, List, length, drop, ap, ◌∙◌, arith}
+use Rattle.std.proofs.Common.{◌≤◌, ◌∷◌, List, length, drop, ap, ◌∙◌, arith}
 use Rattle.std.proofs.lemmas.List.{length-reverse}
 use Rattle.mon_values.specs.declared.value.Value.{Value}
 use Rattle.mon_frames.proofs.Lists.{two_replaced}

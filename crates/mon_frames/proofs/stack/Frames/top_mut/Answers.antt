@@ -3,7 +3,7 @@ use Rattle.std.proofs.lemmas.List.{length-reverse}
 use Rattle.mon_values.specs.declared.value.Value.{Value}
 use Rattle.mon_frames.specs.declared.frame.Frame.{Frame}
 use Rattle.mon_frames.specs.declared.call.Call.{Call}
-use Rattle.mon_frames.specs.declared.call.Generator.{Generator}
+use Rattle.mon_frames.specs.declared.generator.Generator.{Generator}
 use Rattle.mon_frames.specs.Views.{FramesView, with_top, top_of}
 use Rattle.mon_frames.proofs.Tops.{with_top_set, top_last}
 use Rattle.mon_frames.proofs.stack.Frames.top_mut.Goals as goal

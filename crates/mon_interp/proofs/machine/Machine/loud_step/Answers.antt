@@ -16,7 +16,7 @@ use Rattle.mon_machine.specs.Step.{with_line}
 use Rattle.mon_machine.proofs.Locating.{instruction_at}
 use Rattle.mon_machine.specs.Advances.{Progress}
 use Rattle.mon_interp.specs.Machines.{progress_of}
-use Rattle.mon_interp.specs.Moving.{frames_move, is_raising}
+use Rattle.mon_interp.specs.Moving.{frames_move, raises}
 use Rattle.mon_interp.proofs.Asking.{listed_part}
 use Rattle.mon_interp.proofs.Listing.{looked, answered_by}
 use Rattle.mon_interp.proofs.Hearing.{heard_asked, heard_by, known_part}
@@ -69,7 +69,7 @@ returns-clause-step g c = λ f top number.
     part o.value
     (heard_by c.args.self.now.steps c.go_on.new.self.steps xs xs a b c.args.self.now.records c.go_on.new.self.records c.hear_asked.new.records c.args.self.now.disables c.go_on.new.self.disables c.hear_asked.new.disables c.go_on.ensures.steps refl c.go_on.ensures.records.0 c.go_on.ensures.records.1
     (c.in_ok-hear_asked.ensures.heard a (record { grows = o.grows; word_is = c.requires.loaded; global_is = known_part p c.args.op n c.args.number c.args.location.line f m c.args.word global (after a.first a.seen).global xs part o.value })))
-    (c.hear_asked.ensures.loaded ∙ ap (λ (l : List Load). l ++ callback_loads c.args.word global xs 6) o.loaded ∙ append_assoc a.tally.loads (cond (is_raising c.in_ok-done.done.ending) (Load.Global ∷ []) []) (callback_loads c.args.word global xs 6))
+    (c.hear_asked.ensures.loaded ∙ ap (λ (l : List Load). l ++ callback_loads c.args.word global xs 6) o.loaded ∙ append_assoc a.tally.loads (cond (raises m.frames.calls m.ending) (Load.Global ∷ []) []) (callback_loads c.args.word global xs 6))
     (retiring_from a d b c.args.number c.args.word o.same c.in_ok-hear_asked.ensures.retired)
 
 pub returns-clause-stays : goal.returns-clause-stays

@@ -1,16 +1,9 @@
 use Rattle.std.proofs.Common.{◌<◌, ◌+◌, ◌≤◌, ◌≡◌, ℕ, List, length, map, arith, ap, ◌∙◌, sym, refl}
-use Rattle.std.proofs.lemmas.List.{length-map}
-use Rattle.mon_words.specs.declared.history.Cell.{Cell}
-use Rattle.mon_words.specs.History.{base_in}
 use Rattle.mon_interp.specs.Machines.{state_of, progress_of}
 use Rattle.mon_interp.proofs.Steps.{no_frame, no_code, no_location, due_no_frame, due_no_code, due_no_location}
-use Rattle.mon_interp.proofs.Placed.{nowhere}
+use Rattle.mon_interp.proofs.Placed.{nowhere, inside_board}
 use Rattle.mon_machine.proofs.Advancing.{stays_refl}
 use Rattle.mon_interp.proofs.machine.Machine.run_step.Goals as goal
-
--- the location of the innermost frame has a word
-inside_board : (bases : List ℕ) (cells : List Cell) (first index count : ℕ) → first + count ≤ length bases → index < count → map base_in cells ≡ bases → first + index < length cells
-inside_board bases cells first index count inside within same = omega (arith, inside, within, ap length same, length-map cells base_in)
 
 pub returns-then-depth-eq0-clause-step : goal.returns-then-depth-eq0-clause-step
 returns-then-depth-eq0-clause-step g c =

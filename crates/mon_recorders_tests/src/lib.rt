@@ -1,0 +1,5 @@
+//! Tests of `mon_recorders`.
+#![tactic(auto)]
+
+#[cfg(test)]
+mod tests;
