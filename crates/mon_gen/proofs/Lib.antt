@@ -1,0 +1,6 @@
+mod Apart
+mod Layers
+mod Silent
+mod Locations
+pub mod Faults
+pub mod Fits

@@ -1,0 +1,6 @@
+use Rattle.std.proofs.Common.{◌≡◌, ◌++◌, drop, string_bytes, encode_utf8_all}
+use Rattle.mon_gen.proofs.summary.write_chars.Given as goal
+
+abbrev pub invariant-loop-c : goal.invariant-loop-c
+invariant-loop-c l =
+    string_bytes l.out ++ encode_utf8_all (drop l.c-index l.chars) ≡ string_bytes l.initial.out ++ encode_utf8_all l.chars

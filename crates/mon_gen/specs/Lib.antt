@@ -1,0 +1,4 @@
+pub mod Generated
+pub mod Plans
+pub mod Summaries
+pub mod Laws

@@ -1,0 +1,5 @@
+//! Tests of `mon_gen`.
+#![tactic(auto)]
+
+#[cfg(test)]
+mod tests;
