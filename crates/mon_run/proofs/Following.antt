@@ -20,7 +20,7 @@ use Rattle.mon_machine.specs.Advances.{Progress, nothing_done}
 use Rattle.mon_run.specs.Turns.{Asked, AllZero, asked, of_script, of_none, first_calls}
 use Rattle.mon_run.specs.Laws.{SerialFollows}
 use Rattle.mon_run.specs.Serial.{World, line_at, steps_of, asks, asks_first, asks_next, next_call, steps_by, steps_one, may_step, turn, moves_one, moves_all, rest_of_scripts, rest_of_threads, first_world, last_world}
-use Rattle.mon_run.proofs.Turns.{asked_append, script_append, none_append, first_long}
+use Rattle.mon_run.proofs.Turns.{asked_append, asked_long, script_append, none_append, first_long}
 use Rattle.mon_run.proofs.Turning.{turn_none, turn_more, heard_in}
 use Rattle.mon_run.proofs.Ordering.{moves_append}
 
@@ -228,10 +228,6 @@ order_first p plan =
       scripts = λ s. ap (λ k. take k (get_or plan.scripts s [])) (sym (ap (λ z. get_or z s 0) f.made_are ∙ zeros (length plan.scripts) s));
       alone = refl;
     }
-
-asked_long : (J : List JournalLine) → length (asked J) ≡ length J
-asked_long [] = refl
-asked_long (x ∷ xs) = omega (arith, asked_long xs)
 
 pub serial_follows : SerialFollows
 serial_follows p plan schedule =

@@ -34,7 +34,7 @@ use Rattle.mon_run.proofs.Following.{serial_follows}
 no_line : (k : ℕ) (l : JournalLine) → slice_get [] k ≡ Some l → ⊥
 no_line k l e = absurd (cc)
 
-lawful_none : (n : ℕ) → IsLawful n []
+pub lawful_none : (n : ℕ) → IsLawful n []
 lawful_none n = record {
   replies = λ k l e. absurd (no_line k l e);
   stopped = λ k l e. absurd (no_line k l e);
@@ -80,7 +80,7 @@ first_holds p plan c v threads made first view bases stands none count codes beg
 }
 
 -- the changes of a word history are those of the calls whose counts it has
-changes_are : (n : ℕ) (W : List Mark) (L : List JournalLine) → counts_with W ≡ map (λ (line : JournalLine). line.stops) L → changes (entries n W) ≡ numbered n L
+pub changes_are : (n : ℕ) (W : List Mark) (L : List JournalLine) → counts_with W ≡ map (λ (line : JournalLine). line.stops) L → changes (entries n W) ≡ numbered n L
 changes_are n [] [] e = refl
 changes_are n [] (x ∷ L) e = absurd (cc)
 changes_are n (Off t l k ∷ ms) L e = changes_are n ms L e

@@ -12,4 +12,17 @@ pub mod Starting
 pub mod Lawfully
 pub mod Calling
 pub mod Rising
+pub mod Going
+pub mod Governing
+pub mod Leaving
+pub mod InTurn
+pub mod Adding
+pub mod Early
+pub mod Working
+pub mod Gathering
+pub mod Assembling
+pub mod Lending
+pub mod Tasking
+pub mod Crossing
+pub mod Homing
 mod Examples

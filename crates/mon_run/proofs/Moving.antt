@@ -153,8 +153,13 @@ done_more bound i n old new is before here others t q h at = dite (ℕ_discrete 
 pub done_all : (bound n : ℕ) (threads : List Progress) → length threads ≤ n → ((t : ℕ) (q : Progress) → t < n → slice_get threads t ≡ Some q → IsDone bound q) → (t : ℕ) (q : Progress) → slice_get threads t ≡ Some q → IsDone bound q
 done_all bound n threads h done t q at = let l = slice_get_within threads t q at in done t q (omega arith) at
 
+-- a call of a list that fits
+pub call_fits : (p : Parts) (calls : List ControlCall) (n : ℕ) (call : ControlCall) → All (FitsCall p) calls → slice_get calls n ≡ Some call → FitsCall p call
+call_fits p calls n call all at = subst (FitsCall p) (get_or_from_slice_get calls n call call at) (All-get_or (FitsCall p) calls n call (slice_get_within calls n call at) all)
+
+pub script_fits : (p : Parts) (scripts : List (List ControlCall)) (s : ℕ) (script : List ControlCall) → All (All (FitsCall p)) scripts → slice_get scripts s ≡ Some script → All (FitsCall p) script
+script_fits p scripts s script all at = subst (All (FitsCall p)) (get_or_from_slice_get scripts s script script at) (All-get_or (All (FitsCall p)) scripts s script (slice_get_within scripts s script at) all)
+
 -- a call of a script that fits names what is there
 pub script_call_fits : (p : Parts) (scripts : List (List ControlCall)) (s n : ℕ) (script : List ControlCall) (call : ControlCall) → All (All (FitsCall p)) scripts → slice_get scripts s ≡ Some script → slice_get script n ≡ Some call → FitsCall p call
-script_call_fits p scripts s n script call all at one =
-    let fits : All (FitsCall p) script = subst (All (FitsCall p)) (get_or_from_slice_get scripts s script script at) (All-get_or (All (FitsCall p)) scripts s script (slice_get_within scripts s script at) all) in
-    subst (FitsCall p) (get_or_from_slice_get script n call call one) (All-get_or (FitsCall p) script n call (slice_get_within script n call one) fits)
+script_call_fits p scripts s n script call all at one = call_fits p script n call (script_fits p scripts s script all at) one

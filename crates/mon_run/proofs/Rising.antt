@@ -82,11 +82,11 @@ all_turns P g zero h = tt
 all_turns P g (suc n) h = all_append P (in_turn g n) (g n) (all_turns P g n h) (h n)
 
 pub legal_names_codes : LegalNamesCodes
-legal_names_codes p plan report checked runs fits legal t s r is at =
+legal_names_codes p plan report checked fits legal t s r is at =
     let reads = legal.1.reads t s r is at in let span = reads.reading.span in
     let R = reader (sites_of p) report.journal.lines t in
     let events : ℕ → List Happening = events_from p (begins p s) in
-    let named : (k : ℕ) → AllByRecursion (NamesCode p) (events k) = named_plan p plan t s checked runs fits is in
+    let named : (k : ℕ) → AllByRecursion (NamesCode p) (events k) = named_plan p plan t s checked fits is in
     let rec : ℕ → List Record = λ k. records_in (read_at R legal.0 reads.at k) (0 + k) (events k) in
     let dis : ℕ → List Disabled = λ k. disables_in (read_at R legal.0 reads.at k) (0 + k) (events k) in record {
       records = subst (AllByRecursion (λ (x : Record). x.code < length p.codes)) (sym span.records_are) (all_turns (λ (x : Record). x.code < length p.codes) rec (length reads.at)

@@ -1,5 +1,5 @@
 -- Turns of a thread, step by step.
-use Rattle.std.proofs.Common.{◌≡◌, ℕ, zero, suc, ◌+◌, ◌<◌, true, false, ◌&&◌, List, [], ◌∷◌, length, get_or, set, cond, Some, Result, Ok, Err, OnOk, slice_get, sym, refl, ap, ◌∙◌, arith, lt-ltb}
+use Rattle.std.proofs.Common.{◌≡◌, ℕ, zero, suc, ◌+◌, ◌<◌, true, false, ◌&&◌, List, [], ◌∷◌, length, get_or, set, cond, Some, Result, Ok, Err, OnOk, slice_get, sym, refl, ap, ◌∙◌, subst, arith, lt-ltb}
 use Rattle.mon_code.specs.Programs.{Parts}
 use Rattle.mon_code.specs.Sites.{sites_of}
 use Rattle.mon_recorders.specs.Happenings.{Filter}
@@ -60,6 +60,9 @@ set_same (x ∷ xs) (suc t) a e = ap (λ z. x ∷ z) (set_same xs t a e)
 pub on_ok : {A B : Type 0} (r : Result A B) (P Q : Type 0) → (P → Q) → OnOk r P → OnOk r Q
 on_ok (Ok x) P Q f h = f h
 on_ok (Err e) P Q f h = tt
+
+pub ok_of : {A B : Type 0} (r : Result A B) (x : A) (P : Type 0) → r ≡ Ok x → OnOk r P → P
+ok_of r x P e h = subst (λ z. OnOk z P) e h
 
 pub read_at : {A : Type 0} (xs : List A) (i : ℕ) (x : A) → i < length xs → x ≡ get_or xs i x → slice_get xs i ≡ Some x
 read_at [] i x h e = absurd (omega arith)

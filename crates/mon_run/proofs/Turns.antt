@@ -19,3 +19,7 @@ asked_append (x ∷ xs) ys = let t = asked_append xs ys in λ i. (x.who, x.call)
 pub first_long : (calls : List ControlCall) → length (first_calls calls) ≡ length calls
 first_long [] = refl
 first_long (x ∷ xs) = omega (arith, first_long xs)
+
+pub asked_long : (J : List JournalLine) → length (asked J) ≡ length J
+asked_long [] = refl
+asked_long (x ∷ xs) = omega (arith, asked_long xs)

@@ -3,7 +3,6 @@ use Rattle.std.specs.Prelude.{◌≡◌, ℕ, ◌<◌, List, map, length, slice_
 use Rattle.std.specs.List.{AllByRecursion}
 use Rattle.mon_code.specs.Checked.{IsChecked}
 use Rattle.mon_code.specs.Programs.{Parts}
-use Rattle.mon_machine.specs.Laws.{AllRun}
 use Rattle.mon_recorders.specs.declared.record.Record.{Record}
 use Rattle.mon_recorders.specs.declared.record.Disabled.{Disabled}
 use Rattle.mon_recorders.specs.declared.report.ThreadReport.{ThreadReport}
@@ -35,7 +34,7 @@ LegalStepsRise = (p : Parts) (plan : Workload) (report : Report) → IsLegal p p
 
 -- the events of a plan that fits stand where their kinds say
 abbrev pub PlansAreProper : Type 0
-PlansAreProper = (p : Parts) (plan : Workload) → IsChecked p → AllRun p → FitsWorkload p plan → ProperPlan p plan
+PlansAreProper = (p : Parts) (plan : Workload) → IsChecked p → FitsWorkload p plan → ProperPlan p plan
 
 -- each code that records and disables name is one of the program's
 pub record NamesCodes (p : Parts) (r : ThreadReport) : Type 0 where
@@ -44,4 +43,4 @@ pub record NamesCodes (p : Parts) (r : ThreadReport) : Type 0 where
 
 -- in the report of each thread of a plan that fits
 abbrev pub LegalNamesCodes : Type 0
-LegalNamesCodes = (p : Parts) (plan : Workload) (report : Report) → IsChecked p → AllRun p → FitsWorkload p plan → IsLegal p plan report → (t : ℕ) (s : Start) (r : ThreadReport) → slice_get plan.threads t ≡ Some s → slice_get report.threads t ≡ Some r → NamesCodes p r
+LegalNamesCodes = (p : Parts) (plan : Workload) (report : Report) → IsChecked p → FitsWorkload p plan → IsLegal p plan report → (t : ℕ) (s : Start) (r : ThreadReport) → slice_get plan.threads t ≡ Some s → slice_get report.threads t ≡ Some r → NamesCodes p r

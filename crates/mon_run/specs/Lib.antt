@@ -1,6 +1,11 @@
 pub mod Turns
+pub mod Scripts
 pub mod Reports
 pub mod Serial
 pub mod Replaying
+pub mod Rounds
+pub mod Controlling
+pub mod Crowding
+pub mod Tasks
 pub mod Laws
 pub mod Examples

@@ -3,6 +3,7 @@ ghost use Rattle.mon_run.specs.declared.fault.RunFault.TheVariants as run_fault;
 
 use mon_board::BoardFault;
 use mon_control::ControlFault;
+use mon_gate::GateFault;
 use mon_interp::AdvanceFault;
 use std::alloc::AllocError;
 use thiserror::Error;
@@ -42,6 +43,14 @@ impl From<AdvanceFault> for RunFault {
     ghost from_gives = { λ _ e. e ≡ run_fault.Memory };
 
     fn from(_: AdvanceFault) -> RunFault {
+        RunFault::Memory
+    }
+}
+
+impl From<GateFault> for RunFault {
+    ghost from_gives = { λ _ e. e ≡ run_fault.Memory };
+
+    fn from(_: GateFault) -> RunFault {
         RunFault::Memory
     }
 }

@@ -1,7 +1,6 @@
 //! A plan's run on one thread, from the first board to the report.
 ghost use Rattle.std.specs.Prelude.{◌≡◌, ◌+◌, ◌<◌, ◌≤◌, ℕ, map, length, replicate, slice_get, All, OnOk, IfOk, [], Some};
 ghost use Rattle.mon_machine.specs.Advances.{Progress, nothing_done};
-ghost use Rattle.mon_machine.specs.Laws.{AllRun};
 ghost use Rattle.mon_interp.specs.Threads.{reported};
 ghost use Rattle.mon_forms.specs.Fits.{FitsMove, FitsProgram, FitsWorkload};
 ghost use Rattle.mon_forms.specs.declared.plan.Move.TheVariants.{Call};
@@ -154,7 +153,6 @@ fn begin(
     bases: &[u8],
     plan: &Workload,
 ) -> Result<Replay, RunFault>
-    requires runs { AllRun program.now }
     requires plan { FitsWorkload program.now plan.now }
     requires bases { bases.now ≡ program.now.bases }
     ensures proper { IfOk result (λ _. ProperPlan program.now plan.now) }
@@ -191,7 +189,6 @@ pub fn serial(
     bases: &[u8],
     plan: &Plan,
 ) -> Result<Report, RunFault>
-    requires runs { AllRun program.now }
     requires fits { FitsProgram program.now plan.now }
     requires bases { bases.now ≡ program.now.bases }
     ensures report { IfOk result (IsSerial program.now plan.now) }

@@ -10,7 +10,7 @@ use Rattle.mon_run.proofs.Moving.{few_calls}
 use Rattle.mon_run.proofs.serial_run.begin.Goals as goal
 
 pub returns-clause-proper : goal.returns-clause-proper
-returns-clause-proper c = proper_plan c.args.program.now c.args.plan.now c.locations.ensures.checked c.requires.runs c.requires.plan
+returns-clause-proper c = proper_plan c.args.program.now c.args.plan.now c.locations.ensures.checked c.requires.plan
 
 pub returns-clause-holds : goal.returns-clause-holds
 returns-clause-holds c =

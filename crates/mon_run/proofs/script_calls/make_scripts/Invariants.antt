@@ -1,0 +1,15 @@
+use Rattle.std.proofs.Common.{◌+◌, ◌≤◌, length}
+use Rattle.mon_gate.specs.Seats.{Belongs}
+use Rattle.mon_run.specs.Scripts.{rounds}
+use Rattle.mon_run.specs.Controlling.{Governs, Grown, SameShares, SameSizes, calls_due}
+use Rattle.mon_run.proofs.script_calls.make_scripts.Given as goal
+
+abbrev pub invariant-loop-round : goal.invariant-loop-round
+invariant-loop-round g l = record {
+  gate : Belongs l.idle.chair l.lent.gate.now;
+  shares : SameShares l.fn.idle.chair.me.0 l.idle.chair.me.0;
+  sizes : SameSizes l.fn.control l.control;
+  governs : Governs l.lent.program.now l.control l.idle.chair.me.0;
+  grown : Grown l.fn.control.journal l.control.journal (rounds l.lent.plan.now.scripts l.round);
+  few : length l.control.journal + calls_due l.round 0 l.lent.plan.now.scripts ≤ 256;
+}

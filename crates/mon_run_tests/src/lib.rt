@@ -1,0 +1,5 @@
+//! The serial run of whole plans.
+#![tactic(auto)]
+
+#[cfg(test)]
+mod tests;
