@@ -1,5 +1,5 @@
 -- A request has one answer.
-use Rattle.std.proofs.Common.{◌≡◌, ◌∙◌, ℕ, List, [], ◌∷◌, ◌++◌, sym, ap₂, Ok, Err}
+use Rattle.std.proofs.Common.{◌≡◌, ◌∙◌, ℕ, List, ◌++◌, sym, ap, ap₂, Ok, Err}
 use Rattle.std.specs.Prelude.{Option, Some, None, Result}
 use Rattle.mon_code.specs.Programs.{Parts}
 use Rattle.mon_forms.specs.Plans.{plan_of}
@@ -7,11 +7,11 @@ use Rattle.mon_forms.specs.Reports.{report_text, journal_text, threads_text}
 use Rattle.mon_forms.specs.Rows.{reports_text}
 use Rattle.mon_forms.specs.declared.plan.Plan.{Plan}
 use Rattle.mon_forms.specs.declared.plan.PlanFault.{PlanFault}
-use Rattle.mon_forms.specs.declared.report.Report.{Report}
+use Rattle.mon_gen.specs.Summaries.{summary_text}
 use Rattle.mon_parser.specs.Texts.{Reading}
 use Rattle.mon_history.specs.declared.journal.JournalLine.{JournalLine}
 use Rattle.mon_recorders.specs.declared.report.ThreadReport.{ThreadReport}
-use Rattle.mon_main.specs.Answers.{Answer, Answers, Is, Lists, ByPlan, Prints, Runs, RunsBy, Serially, program_in}
+use Rattle.mon_main.specs.Answers.{Answer, Answers, Is, Lists, ByPlan, Generates, Prints, Runs, RunsBy, Serially, SumsUp, program_in}
 use Rattle.mon_main.specs.Commands.{Request, request_of, unless_threaded}
 use Rattle.mon_main.specs.Commands as request
 use Rattle.mon_main.specs.Laws.{StatusesAgree, TextsAgree}
@@ -58,12 +58,21 @@ list_text : (due : Result Parts Answer) (status other : Status) (text more : Lis
 list_text (Ok p) status other text more h k = h.1 ∙ sym k.1
 list_text (Err refusal) status other text more h k = h.1 ∙ sym k.1
 
+-- so does its summary
+sums_up_once : (p : Parts) (plan : Plan) (text more : List ℕ) → SumsUp p plan text → SumsUp p plan more → text ≡ more
+sums_up_once p plan text more h k =
+    let shown : summary_text p h.report.threads ≡ summary_text p k.report.threads = ap (λ (threads : List ThreadReport). summary_text p threads) (h.runs.serial.threads ∙ sym k.runs.serial.threads) in
+    h.is ∙ shown ∙ sym k.is
+
+generated_text : (n : ℕ) (status other : Status) (text more : List ℕ) → Generates n status text → Generates n other more → text ≡ more
+generated_text n status other text more h k = sums_up_once _ _ text more h.1 k.1
+
 asked_text : (asked : Option Request) (reading : Reading) (plan : List ℕ) (status other : Status) (text more : List ℕ) → Answers (unless_threaded asked) reading plan status text → Answers (unless_threaded asked) reading plan other more → text ≡ more
 asked_text None reading plan status other text more h k = h.1 ∙ sym k.1
 asked_text (Some (request.Run file name)) reading plan status other text more h k = h.1 ∙ sym k.1
 asked_text (Some (request.Replay file name)) reading plan status other text more h k = run_text (program_in reading) plan status other text more h k
 asked_text (Some (request.Dis file)) reading plan status other text more h k = list_text (program_in reading) status other text more h k
-asked_text (Some (request.Gen number)) reading plan status other text more h k = h.1 ∙ sym k.1
+asked_text (Some (request.Gen number)) reading plan status other text more h k = generated_text number status other text more h k
 
 pub texts_agree : TextsAgree
 texts_agree words reading plan status other text more h k = asked_text (request_of words) reading plan status other text more h k

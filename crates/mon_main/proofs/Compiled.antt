@@ -1,30 +1,16 @@
 -- The programs of modules.
-use Rattle.std.proofs.Common.{◌≡◌, ◌∙◌, ℕ, List, sym, ap, subst, true, Ok, Err, refl}
-use Rattle.std.specs.Prelude.{Option, Some, None, slice_get, Result}
-use Rattle.mon_events.specs.declared.op.Op.{Op}
-use Rattle.mon_code.specs.Programs.{Parts, op_in}
+use Rattle.std.proofs.Common.{◌≡◌, ◌∙◌, ℕ, List, sym, ap, Ok, Err}
+use Rattle.std.specs.Prelude.{Option, Some, None}
+use Rattle.mon_code.specs.Programs.{Parts}
 use Rattle.mon_trees.specs.declared.tree.Module.{Module}
 use Rattle.mon_compile.specs.declared.fault.CompileFault.{CompileFault}
 use Rattle.mon_compile.specs.Answered.{AnswersCompiled}
 use Rattle.mon_compile.specs.Faults.{compile_fault}
 use Rattle.mon_compile.specs.Modules as modules
-use Rattle.mon_compile.specs.SchemeLaws.{is_plain_op}
-use Rattle.mon_compile.proofs.PlainOps.{no_generators}
-use Rattle.mon_machine.specs.Laws.{runs, AllRun}
 use Rattle.mon_compile.specs.declared.fault.CompileFault.TheVariants as compile
-use Rattle.mon_main.specs.Answers.{Answer, says, uncompiled, not_built_line, program_of, program_without}
+use Rattle.mon_main.specs.Answers.{says, uncompiled, program_of, program_without}
 use Rattle.mon_main.specs.Sources.{uncompiled_line}
 use Rattle.mon_main.specs.declared.status.Status.{Status}
-
--- the machine runs all opcodes but those of generators
-op_runs : (op : Op) → is_plain_op op ≡ true → runs op ≡ true
-op_runs Op.ReturnGenerator h = cc
-op_runs Op.YieldValue h = cc
-op_runs _ h = refl
-
-pub module_runs : (m : Module) (p : Parts) → compile_fault m ≡ None → p ≡ modules.compiled m → AllRun p
-module_runs m p fault e location op at =
-    op_runs op (no_generators m fault location op (ap (λ (q : Parts). op_in (slice_get q.bases location)) (sym e) ∙ at))
 
 pub program_is : (m : Module) (p : Parts) → compile_fault m ≡ None → p ≡ modules.compiled m → program_of m ≡ Ok p
 unfolding program_of
@@ -34,12 +20,8 @@ pub fault_is : (m : Module) (fault : CompileFault) → compile_fault m ≡ Some 
 unfolding program_of
 fault_is m fault e = ap (λ (f : Option CompileFault). program_without f m) e
 
-pub not_built_is : (m : Module) (fault : CompileFault) (line : ℕ) → fault ≡ compile.NotBuilt line → AnswersCompiled (Err fault) m → program_of m ≡ Err (says Status.NotBuilt not_built_line)
-not_built_is m fault line is e = fault_is m (compile.NotBuilt line) (subst (λ (f : CompileFault). AnswersCompiled (Err f) m) is e)
-
 -- a fault that has a line
 abbrev pub IsLine : CompileFault → Type 0
-IsLine (compile.NotBuilt line) = ⊥
 IsLine compile.Memory = ⊥
 IsLine _ = Unit {0}
 
@@ -49,5 +31,4 @@ uncompiled_is m (compile.DuplicateName n) line h e is = fault_is m (compile.Dupl
 uncompiled_is m (compile.Misplaced n) line h e is = fault_is m (compile.Misplaced n) e ∙ ap (λ l. Err (says Status.Source l)) (sym is)
 uncompiled_is m (compile.TooLarge n) line h e is = fault_is m (compile.TooLarge n) e ∙ ap (λ l. Err (says Status.Source l)) (sym is)
 uncompiled_is m compile.TooManyLocations line h e is = fault_is m compile.TooManyLocations e ∙ ap (λ l. Err (says Status.Source l)) (sym is)
-uncompiled_is m (compile.NotBuilt n) line h e is = absurd h
 uncompiled_is m compile.Memory line h e is = absurd h

@@ -1,13 +1,11 @@
 -- A text that is too long is at fault as a whole, so that no more of it than its first bytes counts.
-use Rattle.std.proofs.Common.{◌≡◌, ℕ, ◌<◌, ◌≤◌, ◌∙◌, List, [], length, take, refl, sym, ap, arith, subst, inl, inr, false, true}
+use Rattle.std.proofs.Common.{◌≡◌, ℕ, ◌<◌, ◌≤◌, ◌∙◌, List, [], length, take, refl, sym, ap, arith, subst, inl, inr, true}
 use Rattle.std.proofs.lemmas.Bool.{cases_lt}
 use Rattle.std.proofs.lemmas.Bool.Decides.{nat_tests}
 use Rattle.std.proofs.lemmas.List.{take_all, length-take-le}
-use Rattle.std.specs.Prelude.{Option, Some, None, Result, Err, nat_lt, ◌⊎◌}
+use Rattle.std.specs.Prelude.{Option, Some, None, Err, nat_lt, ◌⊎◌}
 use Rattle.mon_code.specs.Programs.{Parts}
 use Rattle.mon_forms.specs.Plans.{plan_of}
-use Rattle.mon_forms.specs.declared.plan.Plan.{Plan}
-use Rattle.mon_forms.specs.declared.plan.PlanFault.{PlanFault}
 use Rattle.mon_forms.specs.declared.plan.PlanFault.TheVariants as plan_fault
 use Rattle.mon_forms.specs.declared.plan.PlanKind.TheVariants as kind
 use Rattle.mon_lexer.specs.Top.{lexfault}

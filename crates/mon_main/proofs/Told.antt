@@ -1,5 +1,5 @@
 -- What is answered from what was read is the due answer, where the store tells what the names stand for.
-use Rattle.std.proofs.Common.{◌≡◌, ◌∙◌, ℕ, List, [], refl, sym, ap, subst, inr, Result, Ok, Err, IfOk}
+use Rattle.std.proofs.Common.{◌≡◌, ◌∙◌, ℕ, List, [], refl, sym, ap, subst, Result, Ok, Err, IfOk}
 use Rattle.std.specs.Prelude.{Option, Some, None}
 use Rattle.mon_code.specs.Programs.{Parts}
 use Rattle.mon_parser.specs.Texts.{Reading, ReadAs, Misspelled, Underived, Parsed}
@@ -10,7 +10,7 @@ use Rattle.mon_outside.specs.Outside.{ReadsAll}
 use Rattle.mon_main.proofs.Limits.{plan_of-take, read_as-take, read_of}
 use Rattle.mon_forms.specs.declared.plan.Plan.{Plan}
 use Rattle.mon_forms.specs.declared.plan.PlanFault.{PlanFault}
-use Rattle.mon_main.specs.Answers.{Answer, Answers, program_in, program_of, says, ByPlan, HasProgram, Lists, RunsBy, Serially, Tells, TellsFile, TellsPlan}
+use Rattle.mon_main.specs.Answers.{Answer, Answers, program_in, program_of, says, ByPlan, HasProgram, Lists, Runs, RunsBy, Tells, TellsFile, TellsPlan}
 use Rattle.mon_main.specs.Commands.{Request}
 use Rattle.mon_main.specs.Commands as request
 use Rattle.mon_main.specs.Replies.{answer_of, IsProgram}
@@ -67,13 +67,13 @@ found_program {E} m held read (Ok r) reads is due = due_program m held read r re
 found_program {E} m held read (Err e) reads is due = tt
 
 -- what a program is answered is due to what FILE is read as
-pub replay_due : {E : Type 0} (c : Compiled) (reading : Reading) (held told : Option (List ℕ)) (plan read : List ℕ) (r : Result Reply E) → TellsPlan (program_in reading) held plan → program_in reading ≡ Ok c.program → told ≡ held → ReadsAll told [] read
-    → IfOk r (λ x. ByPlan Serially c.program (plan_of c.program read) (answer_of x).status (answer_of x).text) → IfOk r (λ x. RunsBy Serially (program_in reading) plan (answer_of x).status (answer_of x).text)
-replay_due {E} c reading held told plan read r tells is same reads due =
+pub run_due : {E : Type 0} (R : Runs) (c : Compiled) (reading : Reading) (held told : Option (List ℕ)) (plan read : List ℕ) (r : Result Reply E) → TellsPlan (program_in reading) held plan → program_in reading ≡ Ok c.program → told ≡ held → ReadsAll told [] read
+    → IfOk r (λ x. ByPlan R c.program (plan_of c.program read) (answer_of x).status (answer_of x).text) → IfOk r (λ x. RunsBy R (program_in reading) plan (answer_of x).status (answer_of x).text)
+run_due {E} R c reading held told plan read r tells is same reads due =
     let is_told : told ≡ Some plan = same ∙ subst (λ (o : Result Parts Answer). TellsPlan o held plan) is tells in
-    let at_program : IfOk r (λ x. RunsBy Serially (Ok c.program) plan (answer_of x).status (answer_of x).text) =
-    subst (λ (q : Result Plan PlanFault). IfOk r (λ x. ByPlan Serially c.program q (answer_of x).status (answer_of x).text)) (plan_read c.program told plan read is_told reads) due in
-    subst (λ (o : Result Parts Answer). IfOk r (λ x. RunsBy Serially o plan (answer_of x).status (answer_of x).text)) (sym is) at_program
+    let at_program : IfOk r (λ x. RunsBy R (Ok c.program) plan (answer_of x).status (answer_of x).text) =
+    subst (λ (q : Result Plan PlanFault). IfOk r (λ x. ByPlan R c.program q (answer_of x).status (answer_of x).text)) (plan_read c.program told plan read is_told reads) due in
+    subst (λ (o : Result Parts Answer). IfOk r (λ x. RunsBy R o plan (answer_of x).status (answer_of x).text)) (sym is) at_program
 
 -- a listing is due to what the words ask for
 pub dis_due : {E : Type 0} (asked : Option Request) (file : List ℕ) (holds : List ℕ → Option (List ℕ)) (reading : Reading) (plan : List ℕ) (r : Result Reply E) → asked ≡ Some (request.Dis file) → Tells asked holds reading plan

@@ -1,11 +1,10 @@
 -- The answer to a request: a status, and the text that is written. It knows the request, what FILE is read as and the contents
 -- of PLAN, and no store.
-use Rattle.std.specs.Prelude.{◌≡◌, ℕ, List, [], ◌∷◌, ◌++◌, Option, Some, None, Result, Ok, Err, Bool, true, false, IsSome, codes, ◌⊎◌}
+use Rattle.std.specs.Prelude.{◌≡◌, ℕ, List, [], Option, Some, None, Result, Ok, Err, ◌⊎◌}
 use Rattle.mon_code.specs.Programs.{Parts}
 use Rattle.mon_trees.specs.declared.tree.Module.{Module}
 use Rattle.mon_parser.specs.Texts.{Reading, ReadAs, Misspelled, Underived, Parsed}
 use Rattle.mon_compile.specs.declared.fault.CompileFault.{CompileFault}
-use Rattle.mon_compile.specs.declared.fault.CompileFault.TheVariants as compile
 use Rattle.mon_compile.specs.Faults.{compile_fault}
 use Rattle.mon_compile.specs.Modules as modules
 use Rattle.mon_forms.specs.Listing.{listing}
@@ -15,8 +14,13 @@ use Rattle.mon_forms.specs.declared.plan.Plan.{Plan}
 use Rattle.mon_forms.specs.declared.plan.PlanFault.{PlanFault}
 use Rattle.mon_forms.specs.declared.plan.PlanFault.TheVariants as plan_fault
 use Rattle.mon_forms.specs.declared.report.Report.{Report}
+use Rattle.mon_gen.specs.Generated.{generated}
+use Rattle.mon_gen.specs.Plans.{generated_plan}
+use Rattle.mon_gen.specs.Summaries.{summary_text}
 use Rattle.mon_run.specs.Reports.{IsLegal}
+use Rattle.mon_run.specs.Scripts.{in_order}
 use Rattle.mon_run.specs.Serial.{IsSerial}
+use Rattle.mon_run.specs.Turns as turns
 use Rattle.mon_main.specs.Commands.{Request, usage_line}
 use Rattle.mon_main.specs.Commands as request
 use Rattle.mon_main.specs.Sources.{misspelled_line, underived_line, uncompiled_line, plan_line}
@@ -33,14 +37,10 @@ Is a status text = (status ≡ a.status) × (text ≡ a.text)
 abbrev pub says : Status → List ℕ → Answer
 says status text = record { status = status; text = text }
 
-unfoldable pub not_built_line : List ℕ
-not_built_line = codes "not built yet\n"
-
 -- ---- FILE
 
--- a fault of the module; what is not built is none of the file's
+-- a fault of the module
 abbrev pub uncompiled : CompileFault → Answer
-uncompiled (compile.NotBuilt line) = says Status.NotBuilt not_built_line
 uncompiled fault = says Status.Source (uncompiled_line fault)
 
 abbrev pub program_without : Option CompileFault → Module → Result Parts Answer
@@ -75,8 +75,10 @@ pub record Serially (p : Parts) (plan : Plan) (report : Report) : Type 0 where
   pub serial : IsSerial p plan report
   pub legal : IsLegal p plan.workload report
 
-abbrev pub Legally : Runs
-Legally p plan report = IsLegal p plan.workload report
+-- over threads: as some order of the controls and disables allows, the scripts' calls in turn
+pub record Legally (p : Parts) (plan : Plan) (report : Report) : Type 0 where
+  pub legal : IsLegal p plan.workload report
+  pub order : turns.asked report.journal.lines ≡ in_order plan.workload
 
 -- the text is the print of such a report
 pub record Prints (R : Runs) (p : Parts) (plan : Plan) (text : List ℕ) : Type 0 where
@@ -97,13 +99,23 @@ abbrev pub Lists : Result Parts Answer → Status → List ℕ → Type 0
 Lists (Err refusal) status text = Is refusal status text
 Lists (Ok p) status text = Is (says Status.Done (listing p)) status text
 
+-- the text is the summary of the serial report
+pub record SumsUp (p : Parts) (plan : Plan) (text : List ℕ) : Type 0 where
+  pub report : Report
+  pub runs : Serially p plan report
+  pub is : text ≡ summary_text p report.threads
+
+-- the program of this size by its plan
+abbrev pub Generates : ℕ → Status → List ℕ → Type 0
+Generates n status text = (status ≡ Status.Done) × SumsUp (modules.compiled (generated n)) (generated_plan n) text
+
 -- a request is answered so
 abbrev pub Answers : Option Request → Reading → List ℕ → Status → List ℕ → Type 0
 Answers None reading plan status text = Is (says Status.Usage usage_line) status text
 Answers (Some (request.Run file name)) reading plan status text = RunsBy Legally (program_in reading) plan status text
 Answers (Some (request.Replay file name)) reading plan status text = RunsBy Serially (program_in reading) plan status text
 Answers (Some (request.Dis file)) reading plan status text = Lists (program_in reading) status text
-Answers (Some (request.Gen number)) reading plan status text = Is (says Status.NotBuilt not_built_line) status text
+Answers (Some (request.Gen number)) reading plan status text = Generates number status text
 
 -- ---- as far as contents are told
 

@@ -1,5 +1,5 @@
 -- What a host writes.
-use Rattle.std.specs.Prelude.{◌≡◌, ℕ, List, Option}
+use Rattle.std.specs.Prelude.{ℕ, List, Option}
 use Rattle.mon_parser.specs.Texts.{Reading}
 use Rattle.mon_outside.specs.Outside.{Writes, WritesPrefix}
 use Rattle.mon_main.specs.Answers.{Answers}

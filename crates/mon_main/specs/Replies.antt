@@ -1,7 +1,7 @@
 -- What is said to a request.
-use Rattle.std.specs.Prelude.{◌≡◌, ℕ, List, [], ◌∷◌, Option, Result, Ok, Err, string_bytes}
+use Rattle.std.specs.Prelude.{◌≡◌, ℕ, List, Option, Result, Ok, Err, string_bytes}
 use Rattle.mon_code.specs.Programs.{Parts}
-use Rattle.mon_main.specs.Answers.{Answer, Answers, FailedRead, says, not_built_line}
+use Rattle.mon_main.specs.Answers.{Answer, FailedRead, says}
 use Rattle.mon_main.specs.Commands.{Request, usage_line}
 use Rattle.mon_main.specs.declared.fault.ReplyFault.{ReplyFault}
 use Rattle.mon_main.specs.declared.reply.Compiled.{Compiled}
@@ -14,7 +14,6 @@ abbrev pub answer_of : Reply → Answer
 answer_of Reply.Usage = says Status.Usage usage_line
 answer_of (Reply.Source line) = says Status.Source (string_bytes line)
 answer_of (Reply.Plan line) = says Status.Plan (string_bytes line)
-answer_of Reply.NotBuilt = says Status.NotBuilt not_built_line
 answer_of (Reply.Text text) = says Status.Done text.items
 
 -- a file's program, or the reply to its fault

@@ -26,13 +26,12 @@ misspelled_line lexical.Memory = []
 abbrev pub underived_line : ℕ → List ℕ
 underived_line line = codes "source Syntax " ++ decimal line ++ codes "\n"
 
--- a module's fault; NotBuilt is told in other words, and want of memory has no line
+-- a module's fault; want of memory has no line
 abbrev pub uncompiled_line : CompileFault → List ℕ
 uncompiled_line (compile.DuplicateName line) = codes "source DuplicateName " ++ decimal line ++ codes "\n"
 uncompiled_line (compile.Misplaced line) = codes "source Misplaced " ++ decimal line ++ codes "\n"
 uncompiled_line (compile.TooLarge line) = codes "source TooLarge " ++ decimal line ++ codes "\n"
 uncompiled_line compile.TooManyLocations = codes "source TooManyLocations\n"
-uncompiled_line (compile.NotBuilt line) = []
 uncompiled_line compile.Memory = []
 
 abbrev pub kind_word : PlanKind → List ℕ

@@ -10,7 +10,6 @@ code_of Status.Plan = 4
 code_of Status.ReadFault = 5
 code_of Status.WriteFault = 6
 code_of Status.Memory = 7
-code_of Status.NotBuilt = 8
 
 -- whether the words, FILE and PLAN were answered
 abbrev pub is_answer : Status → Bool

@@ -64,7 +64,7 @@ pub fn source_line(alloc: Global, fault: SourceFault) -> Result<String, AllocErr
     }
 }
 
-/// The line that says why a module has no program. `NotBuilt` and `Memory` have none.
+/// The line that says why a module has no program. `Memory` has none.
 pub fn uncompiled_line(alloc: Global, fault: CompileFault) -> Result<String, AllocError>
     ensures { IfOk result (λ line. string_bytes line ≡ spec.uncompiled_line fault) }
 {
@@ -73,7 +73,7 @@ pub fn uncompiled_line(alloc: Global, fault: CompileFault) -> Result<String, All
         CompileFault::Misplaced(line) => format!(in alloc; "source Misplaced {line}\n"),
         CompileFault::TooLarge(line) => format!(in alloc; "source TooLarge {line}\n"),
         CompileFault::TooManyLocations => String::from_str(alloc, "source TooManyLocations\n"),
-        CompileFault::NotBuilt(_) | CompileFault::Memory => Err(AllocError),
+        CompileFault::Memory => Err(AllocError),
     }
 }
 

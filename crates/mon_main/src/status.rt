@@ -18,8 +18,6 @@ pub enum Status {
     WriteFault = 6,
     /// There was not enough memory. Nothing was written.
     Memory = 7,
-    /// A file has a form that is not built yet.
-    NotBuilt = 8,
 }
 
 impl Status {
@@ -35,7 +33,6 @@ impl Status {
             Status::ReadFault => 5,
             Status::WriteFault => 6,
             Status::Memory => 7,
-            Status::NotBuilt => 8,
         }
     }
 }

@@ -1,7 +1,11 @@
+mod failing;
+mod generated;
+mod generators;
 mod listings;
 mod plans;
 mod runs;
 mod sources;
+mod worked;
 
 use mon_main::{Status, host_serial};
 use mon_outside::{
@@ -19,6 +23,13 @@ const LOOP: &str = "def f(n):\n    i = 0\n    while i < n:\n        i = i + 1\n 
 
 const LOOP_PLAN: &str =
     "steps 100\nthread f 3\nbefore\nuse_tool_id 1 cov\nset_events 1 LINE\nregister_callback 1 LINE keep\n";
+
+/// A sum that is too large, and a recursion without end.
+const RECURSION: &str =
+    "def o():\n    return 9223372036854775807 + 1\ndef r(n):\n    return r(n + 1)\n";
+
+const RECURSION_PLAN: &str =
+    "steps 10000\nthread o\nthread r 0\nbefore\nuse_tool_id 1 t\nregister_callback 1 PY_UNWIND keep\nset_events 1 PY_UNWIND\n";
 
 const JOURNAL: &str =
     "journal before use_tool_id 1 cov = None\njournal before set_events 1 LINE = None at 0\njournal before register_callback 1 LINE keep = None at 0\nthread 0 f\n";
@@ -102,45 +113,22 @@ fn other_words_are_no_command(rt: HostRuntime) -> Result<(), Fail> {
     Ok(())
 }
 
-/// Whether other words leave this much of the usage line where the first write fails.
-fn leaves_prefix(alloc: Global, count: usize) -> Result<bool, AllocError> {
-    let words = texts(alloc, &[])?;
-    let mut store = store(alloc, LOOP, "")?;
-    let mut out = sink(alloc, &[0])?;
-    let status = host_serial(alloc, words.as_slice(), &mut store, &mut out);
-    Ok(status == Status::WriteFault && USAGE.get(..count) == Some(out.bytes.as_slice()))
-}
-
-#[test]
-fn a_failed_write_leaves_a_prefix(rt: HostRuntime) -> Result<(), Fail> {
-    assert!(rt; leaves_prefix(rt.alloc(), 32)?);
-    Ok(())
-}
-
-/// Whether a replay by these words, where the read with the number `failing` fails, ends with its status and writes
-/// nothing.
-fn fails_to_read(alloc: Global, words: &[&str], failing: u64) -> Result<bool, AllocError> {
+/// Whether a replay by these words ends with the status of a failed read, and writes nothing.
+fn fails_to_read(alloc: Global, words: &[&str]) -> Result<bool, AllocError> {
     let words = texts(alloc, words)?;
     let mut store = store(alloc, LOOP, "")?;
-    store.failing.push(failing)?;
     let mut out = sink(alloc, &[])?;
     let status = host_serial(alloc, words.as_slice(), &mut store, &mut out);
     Ok(status == Status::ReadFault && out.bytes.is_empty() && store.faults == 1)
 }
 
 #[test]
-fn a_program_that_is_not_read_writes_nothing(rt: HostRuntime) -> Result<(), Fail> {
+fn a_name_that_is_absent_writes_nothing(rt: HostRuntime) -> Result<(), Fail> {
     let alloc = rt.alloc();
-    assert!(rt; fails_to_read(alloc, &["replay", "absent", "plan"], 9)?);
-    assert!(rt; fails_to_read(alloc, &["replay", "program", "plan"], 0)?);
-    Ok(())
-}
-
-#[test]
-fn a_plan_that_is_not_read_writes_nothing(rt: HostRuntime) -> Result<(), Fail> {
-    let alloc = rt.alloc();
-    assert!(rt; fails_to_read(alloc, &["replay", "program", "absent"], 9)?);
-    assert!(rt; fails_to_read(alloc, &["replay", "program", "plan"], 1)?);
+    assert_eq!(rt; Status::ReadFault.code(), 5);
+    assert!(rt; fails_to_read(alloc, &["replay", "absent", "plan"])?);
+    assert!(rt; fails_to_read(alloc, &["replay", "program", "absent"])?);
+    assert!(rt; fails_to_read(alloc, &["dis", "absent"])?);
     Ok(())
 }
 
@@ -263,19 +251,6 @@ fn replays_to(
     Ok(got == status && written.as_slice() == want.as_bytes())
 }
 
-fn is_not_built(alloc: Global, program: &str, plan: &str) -> Result<bool, AllocError> {
-    replays_to(alloc, program, plan, Status::NotBuilt, "not built yet\n")
-}
-
-#[test]
-fn a_program_that_is_not_built_is_said(rt: HostRuntime) -> Result<(), Fail> {
-    let alloc = rt.alloc();
-    assert_eq!(rt; Status::NotBuilt.code(), 8);
-    let generator = "def f(n):\n    yield n\n";
-    assert!(rt; is_not_built(alloc, generator, LOOP_PLAN)?);
-    Ok(())
-}
-
 /// Whether the loop, under a plan of so many steps, is reported so.
 fn loop_ends(alloc: Global, steps: &str, records: &str, end: &str) -> Result<bool, AllocError> {
     let text = plan(alloc, steps, "f 3")?;
@@ -331,32 +306,5 @@ fn calls_are_reported_in_the_order_of_the_plan(rt: HostRuntime) -> Result<(), Fa
     let want =
         "journal before use_tool_id 5 a.b = None\njournal before register_callback 5 LINE keep = None at 0\njournal before set_events 5 LINE = None at 0\nthread 0 f\nend 0 limit\n";
     assert!(rt; replays_to(rt.alloc(), LOOP, plan, Status::Done, want)?);
-    Ok(())
-}
-
-/// Whether a replay of 250 rounds of the loop, where the write with the number `failing` fails, ends with this status and
-/// leaves so many bytes of its report.
-fn reports_part(
-    alloc: Global,
-    failing: u64,
-    status: Status,
-    kept: usize,
-) -> Result<bool, AllocError> {
-    let text = plan(alloc, "3000", "f 250")?;
-    let (_, whole) = replayed(alloc, LOOP, text.as_str())?;
-    let words = texts(alloc, &["replay", "program", "plan"])?;
-    let mut store = store(alloc, LOOP, text.as_str())?;
-    let mut out = sink(alloc, &[failing])?;
-    let got = host_serial(alloc, words.as_slice(), &mut store, &mut out);
-    Ok(got == status && whole.as_slice().get(..kept) == Some(out.bytes.as_slice()))
-}
-
-#[test]
-fn a_failed_write_ends_the_report(rt: HostRuntime) -> Result<(), Fail> {
-    let alloc = rt.alloc();
-    assert!(rt; reports_part(alloc, 0, Status::WriteFault, 2048)?);
-    assert!(rt; reports_part(alloc, 1, Status::WriteFault, 6144)?);
-    assert!(rt; reports_part(alloc, 2, Status::WriteFault, 9_089)?);
-    assert!(rt; reports_part(alloc, 3, Status::Done, 9_986)?);
     Ok(())
 }

@@ -2,7 +2,7 @@
 //! the number of its status.
 #![tactic(auto)]
 
-use mon_main::{Status, host_serial};
+use mon_main::{Status, Unheld, host};
 use mon_outside::{FileStore, StdoutSink};
 use std::alloc::AllocError;
 use std::env;
@@ -15,7 +15,14 @@ fn main(rt: HostRuntime) -> ExitCode {
         Ok(words) => {
             let mut store = FileStore::new(&rt);
             let mut out = StdoutSink::new(&rt);
-            host_serial(rt.alloc(), words.as_slice(), &mut store, &mut out)
+            host(
+                &rt,
+                rt.alloc(),
+                words.as_slice(),
+                &mut store,
+                &mut out,
+                &Unheld,
+            )
         }
         Err(AllocError) => Status::Memory,
     };

@@ -1,6 +1,6 @@
 //! Reports of whole programs.
 
-use super::{LOOP_PLAN, plan, replayed, replays_to};
+use super::{LOOP_PLAN, RECURSION, RECURSION_PLAN, plan, replayed, replays_to};
 use mon_main::Status;
 use std::alloc::{AllocError, Global};
 use std::test::Fail;
@@ -104,16 +104,74 @@ fn any_function_of_a_file_may_be_run(rt: HostRuntime) -> Result<(), Fail> {
     Ok(())
 }
 
+/// The report of the recursion.
+fn recursion_report(alloc: Global) -> Result<String, AllocError> {
+    let mut text = String::new(alloc);
+    text.push_str(RECURSION_HEAD)?;
+    for step in 6000..7000u64 {
+        write!(
+            text,
+            "rec {step} 1 PY_UNWIND r 10 RecursionError('too many frames')\n"
+        )?;
+    }
+    text.push_str("end 7000 raised RecursionError('too many frames')\n")?;
+    Ok(text)
+}
+
+const RECURSION_HEAD: &str = "journal before use_tool_id 1 t = None
+journal before register_callback 1 PY_UNWIND keep = None at 0 0
+journal before set_events 1 PY_UNWIND = None at 0 0
+thread 0 o
+rec 4 1 PY_UNWIND o 6 OverflowError('integer out of range')
+end 5 raised OverflowError('integer out of range')
+thread 1 r
+";
+
 #[test]
 fn a_thousand_frames_stand_and_no_more(rt: HostRuntime) -> Result<(), Fail> {
-    let alloc = rt.alloc();
-    let program = "def o():\n    return 9223372036854775807 + 1\ndef r(n):\n    return r(n + 1)\n";
-    let plan = plan(alloc, "10000", "r 0")?;
-    let mut want = format!(in alloc; "{JOURNAL}thread 0 r\n")?;
-    for frame in 0..1000u64 {
-        write!(want, "rec {} 1 LINE r 4\n", 6 * frame + 1)?;
+    let want = recursion_report(rt.alloc())?;
+    assert!(rt;
+        replays_to(
+            rt.alloc(),
+            RECURSION,
+            RECURSION_PLAN,
+            Status::Done,
+            want.as_str()
+        )?
+    );
+    Ok(())
+}
+
+#[test]
+fn a_plan_of_nothing_reports_nothing(rt: HostRuntime) -> Result<(), Fail> {
+    assert!(rt; replays_to(rt.alloc(), "", "steps 5\n", Status::Done, "")?);
+    Ok(())
+}
+
+/// Functions of `n` with last parts, and what is printed and recorded at 3.
+const LAST_PARTS: [(&str, &str); 3] = [
+    (
+        "def f(n):\n    for i in (1, 2):\n        try:\n            return n // i\n        except ZeroDivisionError:\n            pass\n        finally:\n            print(i)\n",
+        "out '1'\nrec 1 1 LINE f 2\nrec 8 1 LINE f 3\nrec 9 1 LINE f 4\nrec 12 1 LINE f 8\nrec 18 1 LINE f 4\nend 19 returned 3\n",
+    ),
+    (
+        "def f(n):\n    try:\n        return n // 0\n    finally:\n        print('last')\n",
+        "out 'last'\nrec 1 1 LINE f 2\nrec 2 1 LINE f 3\nrec 7 1 LINE f 5\nend 13 raised ZeroDivisionError('division by zero')\n",
+    ),
+    (
+        "def f(n):\n    while n:\n        try:\n            n -= 1\n            if n == 1: break\n        finally:\n            print(n)\n    try:\n        raise n\n    finally:\n        return n\n",
+        "out '2'\nout '1'\nrec 1 1 LINE f 2\nrec 3 1 LINE f 3\nrec 4 1 LINE f 4\nrec 8 1 LINE f 5\nrec 12 1 LINE f 7\nrec 18 1 LINE f 2\nrec 20 1 LINE f 3\nrec 21 1 LINE f 4\nrec 25 1 LINE f 5\nrec 29 1 LINE f 7\nrec 33 1 LINE f 5\nrec 34 1 LINE f 8\nrec 35 1 LINE f 9\nrec 39 1 LINE f 11\nend 44 returned 1\n",
+    ),
+];
+
+#[test]
+fn last_parts_run_however_what_they_cover_ends(rt: HostRuntime) -> Result<(), Fail> {
+    for (program, records) in &LAST_PARTS {
+        let want = format!(in rt.alloc(); "{JOURNAL}thread 0 f\n{records}")?;
+        assert!(rt;
+            replays_to(rt.alloc(), program, LOOP_PLAN, Status::Done, want.as_str())?,
+            "of {program:?}"
+        );
     }
-    want.push_str("end 7000 raised RecursionError('too many frames')\n")?;
-    assert!(rt; replays_to(alloc, program, plan.as_str(), Status::Done, want.as_str())?);
     Ok(())
 }

@@ -1,4 +1,4 @@
-use super::{JOURNAL, LOOP_PLAN, is_not_built, replays_to, sink, texts};
+use super::{JOURNAL, LOOP_PLAN, replays_to, sink, texts};
 use mon_main::{Status, host_serial};
 use mon_outside::{MemoryFile, MemoryStore};
 use std::alloc::{AllocError, Global};
@@ -97,21 +97,6 @@ fn a_fault_of_a_module_is_said(rt: HostRuntime) -> Result<(), Fail> {
     ];
     for (bytes, line) in rows {
         assert!(rt; has_fault(alloc, bytes, line)?, "of {bytes:?}");
-    }
-    Ok(())
-}
-
-#[test]
-fn a_yield_or_a_finally_is_not_built(rt: HostRuntime) -> Result<(), Fail> {
-    let alloc = rt.alloc();
-    let rows: [&str; 4] = [
-        "def f(n):\n    yield n\n",
-        "def f(n):\n    try:\n        pass\n    finally:\n        pass\n",
-        "def f(n):\n    return n\ndef g():\n    x = (yield)\n",
-        "def f(n):\n    while n:\n        try:\n            n -= 1\n        finally:\n            pass\n",
-    ];
-    for program in rows {
-        assert!(rt; is_not_built(alloc, program, LOOP_PLAN)?, "of {program:?}");
     }
     Ok(())
 }

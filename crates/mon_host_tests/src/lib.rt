@@ -1,0 +1,5 @@
+//! `run`, over threads of the system.
+#![tactic(auto)]
+
+#[cfg(test)]
+mod tests;
